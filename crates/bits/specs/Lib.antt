@@ -1,0 +1,4 @@
+pub mod Reader
+pub mod Bits
+pub mod Told
+pub mod Word
