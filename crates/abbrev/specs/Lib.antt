@@ -1,0 +1,2 @@
+pub mod Abbrev
+pub mod BlockInfo

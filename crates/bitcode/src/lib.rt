@@ -2,9 +2,9 @@
 // store, and a blob's part of the input. Each call is total and asks nothing of its caller.
 use bits::Cursor;
 use bits::Read;
+use terms::END_OF_RECORD;
 use terms::INVALID_SIGNATURE;
 use terms::VALUE_OVERFLOW;
-use terms::END_OF_RECORD;
 ghost use mathlib.Core.Path.{_≡_};
 ghost use Prim.Native.Nat.{_+_, _-_, _^_, _≤_, min};
 ghost use lib.ListN.{length};

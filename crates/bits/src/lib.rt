@@ -1,9 +1,9 @@
 // Bits and VBR numbers (src/bits.rs of the Rust): a place in a stream and an end, by value, with the slice lent beside them.
 // Each call is total: for any place, any end and any slice it gives its answer or a numbered refusal, and it asks nothing of its caller.
-use terms::MAX_INPUT;
-use terms::BUFFER_OVERFLOW;
-use terms::VBR_OVERFLOW;
 use terms::ALIGNMENT;
+use terms::BUFFER_OVERFLOW;
+use terms::MAX_INPUT;
+use terms::VBR_OVERFLOW;
 ghost use mathlib.Core.Path.{_≡_};
 ghost use Prim.Native.Nat.{_+_, _-_, _*_, _%_, _^_, _≤_, _<_, min};
 ghost use lib.ListN.{length, getD};

@@ -5,8 +5,13 @@ pub const MAX_INPUT: u64 = 16_777_216;
 
 // Refusals, by the table of document 01.
 pub const INVALID_SIGNATURE: u64 = 1;
+
 pub const BUFFER_OVERFLOW: u64 = 2;
+
 pub const VBR_OVERFLOW: u64 = 3;
+
 pub const ALIGNMENT: u64 = 4;
+
 pub const VALUE_OVERFLOW: u64 = 13;
+
 pub const END_OF_RECORD: u64 = 14;

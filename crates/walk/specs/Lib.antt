@@ -1,0 +1,5 @@
+pub mod Record
+pub mod Piece
+pub mod Item
+pub mod Walk
+pub mod Samples
