@@ -1,0 +1,3 @@
+pub mod Blobs
+pub mod Answers
+pub mod Whole
