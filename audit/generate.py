@@ -96,7 +96,7 @@ class Maker:
             operands = []
         tail = self.rng.randrange(5)
         if tail in (0, 1):
-            operands += [('array', 0), self.scalar()]
+            operands += [('array', 0), ('char6', 0) if self.chance(0.25) else self.scalar()]
         if tail == 2:
             operands += [('blob', 0)]
         return operands
@@ -262,7 +262,7 @@ class Maker:
         if choice == 0:
             self.record(body, w, self.rng.choice((0, 4, 31, 256, 257, 2 ** 32 + 1)), [1])
         elif choice == 1:
-            self.record(body, w, 1, self.rng.choice(([], [8, 9], [2 ** 32], [2 ** 32 + 8], [4294967295])))
+            self.record(body, w, 1, self.rng.choice(([], [8, 9], [2 ** 32], [2 ** 32], [2 ** 32 + 8])))
         elif choice == 2:
             self.record(body, w, 3, [])
         elif choice == 3:
@@ -326,6 +326,137 @@ def uses(rng):
     return b.bytes()
 
 
+def aimed(rng):
+    """Sound but for a single fault: in BLOCKINFO, in a definition, or at the end of a body."""
+    m, b, body, width = Maker(rng, 0, 3), Bits(), Bits(), rng.choice((3, 3, 4, 5, 32))
+    first = [m.scalar() for _ in range(rng.choice((0, 1, 2)))]
+    array, blob, char6 = ('array', 0), ('blob', 0), ('char6', 0)
+    bad = rng.choice(([array, blob], [array, blob], [array, array], [array], [blob, char6], [array, char6, char6],
+                      [('fixed', rng.choice((0, 33)))], [('vbr', rng.choice((0, 33, 256)))],
+                      [array, ('vbr', 33)], [array, ('fixed', 0)]))
+    where = rng.randrange(3)
+    if where == 0:              # in BLOCKINFO
+        if rng.random() < 0.85:
+            m.record(body, width, 1, [8])
+        choice = rng.randrange(5)
+        if choice < 2:
+            letters = [rng.choice((0, 65, 255)) for _ in range(rng.choice((0, 1, 2)))]
+            m.record(body, width, 2 + choice, [70] * choice + letters + [rng.choice((255, 256, 257, 2 ** 33))])
+        elif choice < 4:
+            m.info_fault(body, width)
+        else:
+            body.put(2, width)
+            m.define(body, first + bad)
+        m.finish(body, width, rng.choice(('end', 'end', 'none')))
+        m.enter(b, 2, 0, width, body)
+    elif where == 1:            # a definition
+        body.put(2, width)
+        m.define(body, first + bad)
+        m.use(body, 4, width, first)
+        m.finish(body, width, 'end')
+        m.enter(b, 2, 8, width, body)
+    else:                       # a body without its END_BLOCK
+        number = rng.choice((8, 9, 4294967295, 4294967294))
+        inside = rng.randrange(4)
+        if inside == 1:
+            m.enter(body, width, 9, 3, m.body(9, 3, 4))
+        if inside == 2:
+            body.put(2, width)
+            m.define(body, [('literal', 5), ('blob', 0)])
+            m.use(body, 4, width, [('literal', 5), ('blob', 0)])
+        if inside == 3:
+            m.record(body, width, 1, [2 ** 20 - 1] * 4)
+            m.finish(body, width, rng.choice(('cut', 'ones')))
+        m.enter(b, 2, number, rng.choice((width, width, 0, 33)), body)
+    return b.bytes()
+
+
+def history(rng):
+    """Abbreviations of one literal each, so that every use tells which one was found."""
+    m, b, mark = Maker(rng, 0, 0), Bits(), [10]
+
+    def define(bits, width):
+        for _ in range(rng.choice((1, 1, 2))):
+            bits.put(2, width)
+            m.define(bits, [('literal', mark[0])])
+            mark[0] += 1
+
+    def information(bits, outer, inside=8):
+        body = Bits()
+        for number in rng.choice(((inside,), (inside,), (8,), (9,), (9, 8), (4294967295,))):
+            m.record(body, 3, 1, [number])
+            define(body, 3)
+        if rng.random() < 0.8:
+            m.finish(body, 3, 'end')
+        else:                   # no SETBID before this one's definition
+            body = Bits()
+            define(body, 3)
+        m.enter(bits, outer, 0, 3, body)
+
+    def block(bits, outer, depth=1):
+        body, number = Bits(), rng.choice((8, 8, 8, 8, 9, 4294967295))
+        for _ in range(rng.choice((1, 2, 3, 4))):
+            act = rng.randrange(8)
+            if act < 2:
+                define(body, 4)
+            elif act < 6:
+                body.put(rng.choice((4, 4, 4, 4, 5, 5, 6)), 4)
+            elif act == 6:
+                information(body, 4, number)
+                body.put(rng.choice((4, 4, 5)), 4)
+            elif depth < 2:
+                block(body, 4, depth + 1)
+        m.finish(body, 4, 'end')
+        m.enter(bits, outer, number, 4, body)
+    for _ in range(rng.choice((2, 3, 3))):
+        rng.choice((information, block, block))(b, 2)
+    return b.bytes()
+
+
+def brim(rng):
+    """A body that ends with the last bit of an item, or in the midst of one, at a chosen field."""
+    m, what = Maker(rng, 0, 0), rng.choice(tuple(range(18)) + (12, 12, 17))
+    more = [63] * rng.choice((12, 13, 13, 14, 15))      # chunks of six bits that all ask for more
+    six = {                     # BLOCKINFO's items, then a block's: numbers of the width (-1) and fields of six bits
+        0: (0, [-1, 3, 9]), 1: (0, [-1, 3, 9, 1]), 2: (0, [-1, 3, 1, 1]), 3: (0, [-1, 3, 1, 1, 8]),
+        4: (0, [-1, 3, 1, 1, 8, -1, 3, 2, 3, 32, 8]), 5: (0, [-1, 3, 1, 1, 8, -1, 3, 2, 3, 33]),
+        6: (0, [-1, 3, 1, 1, 8, -1, 3, 3, 1]), 7: (0, [-1, 3, 1, 1, 8, -1, 3, 3, 2, 5]), 8: (0, [-1, 3, 2, 1]),
+        9: (0, [-1, 3, 3, 0]), 10: (0, [-1, 2]), 11: (0, [-1, 3, 1, 1] + more), 12: (8, [-1, 3, 1, 2] + more),
+        13: (8, [-1, 3, 1, 2, 3]), 14: (8, [-1, 3, 1, 2, 3, 4]), 15: (8, [-1, 9]), 16: (8, [-1, 3, 1]), 17: (8, None)}
+    number, fields = six[what]
+    widths = list(range(2, 33))
+    rng.shuffle(widths)
+    for width in widths:
+        body, code = Bits(), False
+        if fields is None:      # an ENTER whose number is too large, with nothing behind
+            body.put(1, width)
+            body.vbr(rng.choice((2 ** 32, 2 ** 40, 2 ** 32 - 1, 5)), 8)
+        for field in fields or ():
+            if code:
+                body.put(field, width)
+            elif field >= 0:
+                body.put(field, 6)
+            code = field < 0
+        if len(body.bits) % 32 == 0:
+            break
+    else:
+        body.pad(1)
+    b = Bits()
+    m.enter(b, 2, number, width, body)
+    return b.bytes()
+
+
+def bare(rng):
+    """The top level alone, ending on any byte: a record of 3 or 7 operands, a definition, END_BLOCK."""
+    m, b = Maker(rng, 0, 0), Bits()
+    for _ in range(rng.choice((1, 1, 2))):
+        m.record(b, 2, rng.randrange(32), [rng.randrange(32) for _ in range(rng.choice((3, 7, 7, 2)))])
+    if rng.random() < 0.3:
+        b.put(2, 2)
+        m.define(b, m.abbreviation())
+    return b.bytes()
+
+
 def deep(rng):
     """31, 32 or 33 open blocks, with something in the innermost one."""
     m, levels = Maker(rng, 0, 0), rng.choice((31, 32, 32, 33, 33))
@@ -336,7 +467,7 @@ def deep(rng):
     if inside == 1:
         m.record(body, 2, 7, [1, 2])
     if inside == 2:
-        m.enter(body, 2, 10, 3, Bits())
+        m.enter(body, 2, 77, 3, Bits())
     m.finish(body, 2, rng.choice(('end', 'end', 'none')))
     for level in range(levels):
         outer, b = 2, Bits()
@@ -345,27 +476,30 @@ def deep(rng):
             b.put(0, 2)
             b.pad()
         body = b
-    return body.bytes()
+    return body.bytes(), rng.choice(([], [77], [77, 0]))
 
 
 def crowded(rng):
     """32 or 33 definitions: local ones over several blocks, shared ones, or operands of a single one."""
     m, b = Maker(rng, 0, 0), Bits()
-    kind, total = rng.randrange(3), rng.choice((31, 32, 32, 33))
+    kind, total = rng.randrange(3), rng.choice((31, 32, 32, 33, 33))
 
     def some(bits, width, count):
         for _ in range(count):
             bits.put(2, width)
-            m.define(bits, [('literal', rng.randrange(9))] if rng.random() < 0.5 else [('fixed', 3)])
+            m.define(bits, rng.choice(([], [], [('literal', rng.randrange(9))], [('fixed', 3)])))
+        if count and rng.random() < 0.3:
+            bits.put(2, width)
+            m.define(bits, [('vbr', 33)])
     if kind == 0:
-        first = rng.choice((0, 1, 5, total))
+        first = rng.choice((0, 1, 5, 20, total))
         some(b, 2, first)
-        rest, again = Bits(), rng.random() < 0.5
-        some(rest, 6, total - first)
-        rest.put(0, 6)
+        rest, again = Bits(), rng.random() < 0.8
+        some(rest, 3, total - first)
+        rest.put(0, 3)
         rest.pad()
         for number in ((8, 9) if again else (8,)):
-            m.enter(b, 2, number, 6, rest)
+            m.enter(b, 2, number, 3, rest)
     elif kind == 1:
         for part in ((total,) if rng.random() < 0.5 else (total // 2, total - total // 2)):
             body = Bits()
@@ -392,7 +526,8 @@ def noise(rng):
     return bytes(rng.getrandbits(8) for _ in range(rng.randint(0, 24)))
 
 
-KINDS = (plain,) * 5 + (faulty,) * 8 + (info,) * 5 + (uses,) * 5 + (deep, crowded, noise)
+KINDS = (plain,) * 5 + (faulty,) * 6 + (info,) * 5 + (uses,) * 8 + (aimed,) * 4 + (history,) * 4 + (brim,) * 3 \
+    + (deep, deep, crowded, crowded, crowded, bare, noise)
 
 
 def wrap(rng, stream):
@@ -434,12 +569,22 @@ def damage(rng, data):
 
 def sizes(rng, data, skips):
     """Lent stores: mostly ample, at times just enough, one short, or far too small."""
-    events, operands = model.walk(data, skips, 4000, 1000)['before'] or ([], [])
-    events_size, operands_size = 8 * 48, 192
-    if len(events) >= 48 or rng.random() < 0.15:
+    ample = model.walk(data, skips, 4000, 1000)
+    events, operands = ample['before'] or ([], [])
+    events_size, operands_size = 8 * 80, 192
+    tight = ample['status'] == 16 or ample['status'] == 2 and skips
+    exact = 0.3 if tight else 0.08      # as much as is filled before the end or the refusal
+    chance = rng.random()
+    if chance < exact:
+        events_size = 8 * len(events) + rng.choice((0, 0, 1, 7))
+    elif chance < exact + 0.1:
         events_size = 8 * rng.randint(0, len(events) + 1) + rng.choice((0, 0, 1, 7))
-    if len(operands) >= 192 or rng.random() < 0.12:
-        operands_size = rng.randint(0, len(operands) + 1)
+    chance = rng.random()
+    empty_array = events and events[-1][5] in (1, 2) and events[-1][7] == 0
+    if chance < (0.4 if empty_array else 0.1):
+        operands_size = len(operands)
+    elif chance < 0.2 or len(operands) >= 192:
+        operands_size = max(0, len(operands) - rng.choice((1, 1, 2, 3, rng.randint(0, len(operands)))))
     return events_size, operands_size
 
 
@@ -447,12 +592,16 @@ def cases(seed, count):
     rng = random.Random(seed)
     made = 0
     while made < count:
-        data = wrap(rng, rng.choice(KINDS)(rng))
+        stream, skips = rng.choice(KINDS)(rng), None
+        if isinstance(stream, tuple):
+            stream, skips = stream
+        data = wrap(rng, stream)
         if len(data) > 120 and rng.random() < 0.7 and len(data) < 300 or len(data) > 600:
             continue
         if rng.random() < 0.2:
             data = damage(rng, data)
-        skips = rng.choice(([], [], [], [], [0], [8], [9, 0], [200, 9], [10, 1, 8], [4294967295, 2 ** 32 + 8]))
+        if skips is None:
+            skips = rng.choice(([], [], [], [], [0], [8], [8], [9, 0], [200, 9], [10, 1, 8], [4294967295, 2 ** 32 + 8]))
         events_size, operands_size = sizes(rng, data, skips)
         yield data, skips, events_size, operands_size
         made += 1
