@@ -1,1 +1,4 @@
+pub mod Headers
+pub mod Typed
+pub mod Once
 pub mod Answers

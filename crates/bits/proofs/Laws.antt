@@ -1,24 +1,25 @@
--- The laws of a field of bits. Assumes nothing.
+-- The laws of fields, of the limit, and of each call of the cursor but `read_vbr`: forward by its tests, for its own proof, and back, for callers.
+-- Assumes nothing.
 use Prim.Native.Nat.{ℕ, zero, suc, _+_, _-_, _*_, _/_, _%_, _^_, _≤_, _<_}
 use mathlib.Core.Path.{_≡_, refl, sym, ap, _∙_}
 use mathlib.Core.List.{List, []}
-use native.Mathlib.Nat.{mod-lt, zero-add, add-zero, suc-add, add-suc, add-assoc, mul-assoc, pow-suc, pow-zero, mul-one, mod-eq-of-lt, lt-of-lt-of-le}
+use native.Mathlib.Nat.{zero-add, add-zero, suc-add, mul-assoc, pow-suc, pow-zero, mul-one, div-one, lt-of-lt-of-le}
 use native.Mathlib.Numerals.{add-one}
 use native.Mathlib.Omega.{arith}
 use lib.ListN.{length, getD, take, drop}
 use lib.Pow as P
 use borrow.Author.Tests.{le-leb, lt-leb, eq-eqb, ne-eqb, eqb-true, leb-true}
 use mathlib.Core.Bool.{Bool, true, false, _&&_}
-use lib.Dec.{leb, eqb}
-use Prim.Native.Nat.{min}
+use lib.Dec.{leb}
 use Rattle.bits.specs.declared.Cursor.{Cursor}
-use Rattle.terms.specs.Refusals.{No, no}
-use Rattle.bits.specs.Reader.{Answer, got, refused, onward, _>>=_, give, require, if_then_else_, here}
-use Rattle.bits.specs.Bits.{bit, field, limit, reach, field-at, read, align, skip, part, peek, staying, next-bytes, shown}
+use Rattle.terms.specs.Refusals.{No, buffer-overflow, vbr-overflow, alignment}
+use Rattle.bits.specs.Reader.{got, refused, onward, _>>=_, if_then_else_, here}
+use Rattle.bits.specs.Bits.{bit, field, limit, in-range, reach, field-at, read, align, skip, part, peek, staying, next-bytes, shown}
 use Rattle.bits.specs.Told.{At, Off}
 use Rattle.bits.specs.Word.{word}
-use Rattle.bits.proofs.Steps.{never, passed}
+use Rattle.bits.proofs.Steps.{on, off, from-here, off-here, ends, pass, pass-off, fail, never, passed, arms, got-value, got-place}
 
+-- a bit is 0 or 1
 pub bit-lt : (s : List ℕ) (i : ℕ) → bit s i < 2
 unfolding bit
 bit-lt s i = omega arith
@@ -29,6 +30,7 @@ unfolding field
 field-lt s p zero = omega arith
 field-lt s p (suc n) = rw pow-suc (omega (arith, bit-lt s p, field-lt s (p + 1) n))
 
+-- no bits are 0
 field-none : (s : List ℕ) (p : ℕ) → field s p 0 ≡ 0
 unfolding field
 field-none s p = refl
@@ -53,6 +55,7 @@ field-part s p m j n h =
     (rw (field-split s p j (n + r), P.high (field s (p + j) (n + r)) j (field-lt s p j), field-split s (p + j) n r)
     (P.low (field s (p + j + n) r) n (field-lt s (p + j) n)))
 
+-- a bit, by its byte and its place in it
 bit-of : (s : List ℕ) (b j : ℕ) → j < 8 → bit s (8 * b + j) ≡ getD s b 0 / 2 ^ j % 2
 unfolding bit
 bit-of s b j h =
@@ -73,6 +76,10 @@ field-in-byte s b j (suc n) h =
     let r : x / 2 ^ j % 2 ^ (n + 1) ≡ x / 2 ^ j / 2 ^ 1 % 2 ^ n * 2 ^ 1 + x / 2 ^ j % 2 ^ 1 = P.mod-pow-add (x / 2 ^ j) n 1 in
     rw (← add-one n, r, q, e, ih, a) (omega arith)
 
+-- what is known of a slice of bytes
+abbrev pub Bytes : List ℕ → Type 0
+Bytes s = (i : ℕ) → getD s i 0 < 256
+
 -- a byte, and what stands above it
 pub field-byte : (s : List ℕ) (b k n : ℕ) → getD s (b + k) 0 < 256
     → field s (8 * (b + k)) (8 + n) ≡ getD s (b + k) 0 + 256 * field s (8 * (b + suc k)) n
@@ -84,9 +91,7 @@ field-byte s b k n h =
     omega arith
 
 -- 64 bits from a byte on are eight bytes
-pub field-word : (s : List ℕ) (b : ℕ) → ((i : ℕ) → getD s i 0 < 256)
-    → field s (8 * b) 64
-    ≡ word s b
+pub field-word : (s : List ℕ) (b : ℕ) → Bytes s → field s (8 * b) 64 ≡ word s b
 field-word s b h =
     let z : field s (8 * b) 64 ≡ getD s b 0 + 256 * field s (8 * (b + 1)) 56 = rw (add-zero b) at (field-byte s b 0 56 (h (b + 0))) in
     omega (
@@ -108,10 +113,6 @@ two-shifts w n h =
     let f : w * 2 ^ (64 - n) % 2 ^ (n + (64 - n)) / 2 ^ (64 - n) ≡ w * 2 ^ (64 - n) / 2 ^ (64 - n) % 2 ^ n = P.field (w * 2 ^ (64 - n)) n (64 - n) in
     (rw e at f) ∙ rw (P.shl-shr w (64 - n))
 
--- what is known of a slice of bytes
-abbrev pub Bytes : List ℕ → Type 0
-Bytes s = (i : ℕ) → getD s i 0 < 256
-
 -- a field of n bits at p, out of the word at p's byte, where they all lie in it
 pub from-word : (s : List ℕ) (p n : ℕ) {w r : ℕ} → Bytes s → w ≡ word s (p / 8) → r ≡ w / 2 ^ (p % 8) % 2 ^ n → p % 8 + n ≤ 64 → r ≡ field s p n
 from-word s p n {w} {r} hs hw hr h =
@@ -129,23 +130,45 @@ from-two s p n m {x} {y} hx hy l h =
     let shl : field s (p + m) (n - m) * 2 ^ m % 2 ^ 64 ≡ field s (p + m) (n - m) * 2 ^ m = P.shl-exact (n - m) m 64 (field-lt s (p + m) (n - m)) (omega arith) in
     rw (hx, hy, shl, all) (omega arith)
 
--- a field that lies in one byte, and the bits of a byte from a place on
+-- a field that lies in one byte
 pub from-byte : (s : List ℕ) (p n : ℕ) {x r : ℕ} → x ≡ getD s (p / 8) 0 → r ≡ x / 2 ^ (p % 8) % 2 ^ n → p % 8 + n ≤ 8 → r ≡ field s p n
 from-byte s p n {x} {r} hx hr h =
     let e : 8 * (p / 8) + p % 8 ≡ p = omega arith in
     let f : field s p n ≡ getD s (p / 8) 0 / 2 ^ (p % 8) % 2 ^ n = rw e at (field-in-byte s (p / 8) (p % 8) n h) in
     rw (hr, hx, f)
 
+-- the bits of a number of m bits from the k-th on are m - k bits
+whole-rest : (x k m : ℕ) → k ≤ m → x < 2 ^ m → x / 2 ^ k ≡ x / 2 ^ k % 2 ^ (m - k)
+whole-rest x k m l h =
+    let e : m - k + k ≡ m = omega arith in
+    let g : x < 2 ^ (m - k + k) = rw e h in
+    sym (P.shr-mod (m - k) k g)
+
+-- a byte, and a word, from a place in its first byte on
 pub rest-of-byte : (s : List ℕ) (p : ℕ) {x : ℕ} → x ≡ getD s (p / 8) 0 → x < 256 → x / 2 ^ (p % 8) ≡ field s p (8 - p % 8)
-rest-of-byte s p {x} hx l =
-    let e : 8 - p % 8 + p % 8 ≡ 8 = omega arith in
-    let h : x < 2 ^ (8 - p % 8 + p % 8) = rw e l in
-    sym (P.shr-mod (8 - p % 8) (p % 8) h) ∙ from-byte s p (8 - p % 8) hx refl (omega arith)
+rest-of-byte s p {x} hx l = whole-rest x (p % 8) 8 (omega arith) l ∙ from-byte s p (8 - p % 8) hx refl (omega arith)
+
+rest-of-word : (s : List ℕ) (p : ℕ) {w : ℕ} → Bytes s → w ≡ word s (p / 8) → w / 2 ^ (p % 8) ≡ field s p (64 - p % 8)
+rest-of-word s p {w} hs hw =
+    let l : w < 2 ^ 64 = rw (hw ∙ sym (field-word s (p / 8) hs)) (field-lt s (8 * (p / 8)) 64) in
+    whole-rest w (p % 8) 64 (omega arith) l ∙ from-word s p (64 - p % 8) hs hw refl (omega arith)
+
+-- a field that nine bytes hold: the word's bits from its place on, and above them the low bits of the byte behind the word
+pub from-nine : (s : List ℕ) (p n : ℕ) {w x y : ℕ} → Bytes s → w ≡ word s (p / 8) → x ≡ getD s (p / 8 + 8) 0
+    → y ≡ x % 2 ^ (n - (64 - p % 8)) → 64 < p % 8 + n → n ≤ 64 → w / 2 ^ (p % 8) + y * 2 ^ (64 - p % 8) % 2 ^ 64 ≡ field s p n
+from-nine s p n {w} {x} {y} hs hw hx hy k l =
+    let q = p + (64 - p % 8) in
+    let i : p / 8 + 8 ≡ q / 8 = omega arith in
+    let z : q % 8 ≡ 0 = omega arith in
+    let a : x ≡ getD s (q / 8) 0 = rw i at hx in
+    let b : y ≡ x / 2 ^ (q % 8) % 2 ^ (n - (64 - p % 8)) = rw (z, pow-zero) (hy ∙ ap (λ (v : ℕ). v % 2 ^ (n - (64 - p % 8))) (sym (div-one x))) in
+    from-two s p n (64 - p % 8) (rest-of-word s p hs hw) (from-byte s q (n - (64 - p % 8)) a b (omega arith)) (omega arith) l
 
 -- a field of at most 64 bits fits a word
 pub field-fits : (s : List ℕ) (p n : ℕ) {x : ℕ} → x ≡ field s p n → n ≤ 64 → x < 2 ^ 64
 field-fits s p n e h = rw e (lt-of-lt-of-le (field-lt s p n) (P.pow-mono h))
 
+-- ---- the limit: small, within the slice, whole bytes
 pub limit-le : (s : List ℕ) (e : ℕ) → limit s e ≤ 2 ^ 27
 unfolding limit
 limit-le s e = omega arith
@@ -158,23 +181,48 @@ pub limit-whole : (s : List ℕ) (e : ℕ) → limit s e % 8 ≡ 0
 unfolding limit
 limit-whole s e = omega arith
 
--- ---- what a read is, by its tests
+-- ---- a number in a range, as `in-range` tests it
+module _ (lo n hi : ℕ) where
+  pub below-range : n < lo → in-range lo hi n ≡ false
+  below-range h = simp (lt-leb _ _ h)
+
+  pub above-range : lo ≤ n → hi < n → in-range lo hi n ≡ false
+  above-range l h = simp (le-leb _ _ l, lt-leb _ _ h)
+
+  pub within-range : lo ≤ n → n ≤ hi → in-range lo hi n ≡ true
+  within-range l h = simp (le-leb _ _ l, le-leb _ _ h)
+
+-- both of two tests
+and-true : (a b : Bool) → a && b ≡ true → (a ≡ true) × (b ≡ true)
+and-true true true h = (refl, refl)
+and-true true false h = absurd (let z : _≡_ {A = ℕ} 0 1 = cc in omega arith)
+and-true false b h = absurd (let z : _≡_ {A = ℕ} 0 1 = cc in omega arith)
+
+pub between : (lo n hi : ℕ) → in-range lo hi n ≡ true → (lo ≤ n) × (n ≤ hi)
+between lo n hi h = let w = and-true (leb lo n) (leb n hi) h in (leb-true _ _ (w .0), leb-true _ _ (w .1))
+
+-- an answer within a limit, back: the place that it comes to is within
+bounded : {A : Type 0} (t l : ℕ) (x : A) {v : A} {q : ℕ} → (if leb t l then got x t else refused buffer-overflow) ≡ got v q → (t ≤ l) × (v ≡ x) × (q ≡ t)
+bounded t l x {v} {q} z =
+    arms (λ a. a ≡ got v q) (leb t l) _ _ z (λ i h. (leb-true _ _ i, sym (got-value h), sym (got-place h))) (λ i h. absurd (never h))
+
+-- ---- a read, by its tests
 module _ (s : List ℕ) (e p n : ℕ) where
-  pub read-none : n < 1 → Off (read n) s e p (no 3 0 0)
-  unfolding read _>>=_ onward require
-  read-none h = record { why = simp (lt-leb _ _ h) }
+  pub read-none : n < 1 → Off (read n) s e p vbr-overflow
+  unfolding read
+  read-none h = fail _ (below-range _ _ _ h)
 
-  pub read-wide : 64 < n → Off (read n) s e p (no 3 0 0)
-  unfolding read _>>=_ onward require
-  read-wide h = record { why = simp (le-leb 1 n (omega arith), lt-leb _ _ h) }
+  pub read-wide : 64 < n → Off (read n) s e p vbr-overflow
+  unfolding read
+  read-wide h = fail _ (above-range _ _ _ (omega arith) h)
 
-  pub read-short : 1 ≤ n → n ≤ 64 → limit s e < p + n → Off (read n) s e p (no 2 0 0)
-  unfolding read _>>=_ onward require field-at if_then_else_
-  read-short l h o = record { why = simp (le-leb _ _ l, le-leb _ _ h, lt-leb _ _ o) }
+  pub read-short : 1 ≤ n → n ≤ 64 → limit s e < p + n → Off (read n) s e p buffer-overflow
+  unfolding read field-at if_then_else_
+  read-short l h o = pass-off _ _ (within-range _ _ _ l h) record { why = rw (lt-leb (p + n) (limit s e) o) }
 
-  pub read-value : 1 ≤ n → n ≤ 64 → p + n ≤ limit s e → read n s e p ≡ got (field s p n) (p + n)
-  unfolding read _>>=_ onward require field-at if_then_else_
-  read-value l h o = simp (le-leb _ _ l, le-leb _ _ h, le-leb _ _ o)
+  pub read-value : {v : ℕ} → v ≡ field s p n → 1 ≤ n → n ≤ 64 → p + n ≤ limit s e → At (read n) s e p v record { at = p + n; end = e }
+  unfolding read field-at if_then_else_
+  read-value i l h o = pass _ _ (within-range _ _ _ l h) record { gives = rw (i, le-leb (p + n) (limit s e) o); ends = refl }
 
 -- and back: what a read that gives a value says of it
 pub record Reads (s : List ℕ) (e p n v q : ℕ) : Type 0 where
@@ -184,51 +232,43 @@ pub record Reads (s : List ℕ) (e p n v q : ℕ) : Type 0 where
   pub value : v ≡ field s p n
   pub moved : q ≡ p + n
 
-and-true : (a b : Bool) → a && b ≡ true → (a ≡ true) × (b ≡ true)
-and-true true true h = (refl, refl)
-and-true true false h = absurd (let z : _≡_ {A = ℕ} 0 1 = cc in omega arith)
-and-true false b h = absurd (let z : _≡_ {A = ℕ} 0 1 = cc in omega arith)
-
-pub between : (lo n hi : ℕ) → leb lo n && leb n hi ≡ true → (lo ≤ n) × (n ≤ hi)
-between lo n hi h = let w = and-true (leb lo n) (leb n hi) h in (leb-true _ _ (w .0), leb-true _ _ (w .1))
-
 pub read-gives : (s : List ℕ) (e p n v q : ℕ) → read n s e p ≡ got v q → Reads s e p n v q
-unfolding read field-at if_then_else_
-read-gives s e p n v q z = let w = passed _ _ _ _ _ z in let b = between 1 n 64 (w .0) in go (b .0) (b .1) (leb (p + n) (limit s e)) refl (w .1)
-  where
-    go : 1 ≤ n → n ≤ 64 → (c : Bool) → leb (p + n) (limit s e) ≡ c → (if c then got (field s p n) (p + n) else refused (no 2 0 0)) ≡ got v q → Reads s e p n v q
-    go l m true w h = record { some = l; most = m; inside = leb-true _ _ w; value = cc; moved = cc }
-    go l m false w h = absurd (never h)
+unfolding read field-at
+read-gives s e p n v q z =
+    let w = passed _ _ _ _ _ z in
+    let r = between 1 n 64 (w .0) in
+    let b = bounded (p + n) (limit s e) (field s p n) (w .1) in
+    record { some = r .0; most = r .1; inside = b .0; value = b .1; moved = b .2 }
 
--- ---- bounded moves
+-- ---- moves within the limit
 module _ (s : List ℕ) (e p : ℕ) where
-  pub reach-off : (to : ℕ → ℕ) → limit s e < to p → Off (reach to) s e p (no 2 0 0)
+  pub reach-off : (to : ℕ → ℕ) → limit s e < to p → Off (reach to) s e p buffer-overflow
   unfolding reach if_then_else_
   reach-off to h = record { why = rw (lt-leb (to p) (limit s e) h) }
 
-  pub reach-to : (to : ℕ → ℕ) → to p ≤ limit s e → reach to s e p ≡ got tt (to p)
+  pub reach-to : (to : ℕ → ℕ) → to p ≤ limit s e → At (reach to) s e p tt record { at = to p; end = e }
   unfolding reach if_then_else_
-  reach-to to h = rw (le-leb (to p) (limit s e) h)
+  reach-to to h = record { gives = rw (le-leb (to p) (limit s e) h); ends = refl }
 
-  pub align-off : limit s e < (p + 31) / 32 * 32 → Off align s e p (no 2 0 0)
+  pub align-off : limit s e < (p + 31) / 32 * 32 → Off align s e p buffer-overflow
   unfolding align
   align-off h = reach-off (λ p. (p + 31) / 32 * 32) h
 
-  pub align-to : (p + 31) / 32 * 32 ≤ limit s e → align s e p ≡ got tt ((p + 31) / 32 * 32)
+  pub align-to : (p + 31) / 32 * 32 ≤ limit s e → At align s e p tt record { at = (p + 31) / 32 * 32; end = e }
   unfolding align
   align-to h = reach-to (λ p. (p + 31) / 32 * 32) h
 
-  pub skip-odd : (n : ℕ) → (p % 8 ≡ 0 → ⊥) → Off (skip n) s e p (no 4 0 0)
-  unfolding skip _>>=_ onward here require
-  skip-odd n h = record { why = simp (ne-eqb _ _ h) }
+  pub skip-odd : (n : ℕ) → (p % 8 ≡ 0 → ⊥) → Off (skip n) s e p alignment
+  unfolding skip
+  skip-odd n h = off-here _ (fail _ (ne-eqb _ _ h))
 
-  pub skip-off : (n : ℕ) → p % 8 ≡ 0 → limit s e < p + 8 * n → Off (skip n) s e p (no 2 0 0)
-  unfolding skip _>>=_ onward here require reach if_then_else_
-  skip-off n o h = record { why = simp (eq-eqb _ _ o, lt-leb _ _ h) }
+  pub skip-off : (n : ℕ) → p % 8 ≡ 0 → limit s e < p + 8 * n → Off (skip n) s e p buffer-overflow
+  unfolding skip
+  skip-off n o h = off-here _ (pass-off _ _ (eq-eqb _ _ o) (reach-off (λ q. q + 8 * n) h))
 
-  pub skip-to : (n : ℕ) → p % 8 ≡ 0 → p + 8 * n ≤ limit s e → skip n s e p ≡ got tt (p + 8 * n)
-  unfolding skip _>>=_ onward here require reach if_then_else_
-  skip-to n o h = simp (eq-eqb _ _ o, le-leb _ _ h)
+  pub skip-to : (n : ℕ) → p % 8 ≡ 0 → p + 8 * n ≤ limit s e → At (skip n) s e p tt record { at = p + 8 * n; end = e }
+  unfolding skip
+  skip-to n o h = from-here _ (pass _ _ (eq-eqb _ _ o) (reach-to (λ q. q + 8 * n) h))
 
 -- and back: what a move that is made says
 pub record Moves (s : List ℕ) (e p q to : ℕ) : Type 0 where
@@ -236,49 +276,56 @@ pub record Moves (s : List ℕ) (e p q to : ℕ) : Type 0 where
   pub moved : q ≡ to
 
 pub reach-gives : (to : ℕ → ℕ) (s : List ℕ) (e p q : ℕ) → reach to s e p ≡ got tt q → Moves s e p q (to p)
-unfolding reach if_then_else_
-reach-gives to s e p q z = go (leb (to p) (limit s e)) refl z
-  where
-    never : _≡_ {A = ℕ} 0 1 → Moves s e p q (to p)
-    never x = absurd (omega arith)
-
-    go : (a : Bool) → leb (to p) (limit s e) ≡ a → (if a then got (tt {0}) (to p) else refused (no 2 0 0)) ≡ got tt q → Moves s e p q (to p)
-    go true x h = record { inside = leb-true _ _ x; moved = cc }
-    go false x h = never (cc)
+unfolding reach
+reach-gives to s e p q z = let b = bounded (to p) (limit s e) tt z in record { inside = b .0; moved = b .2 }
 
 pub align-gives : (s : List ℕ) (e p q : ℕ) → align s e p ≡ got tt q → Moves s e p q ((p + 31) / 32 * 32)
 unfolding align
 align-gives s e p q z = reach-gives (λ p. (p + 31) / 32 * 32) s e p q z
 
-pub skip-gives : (s : List ℕ) (e p q n : ℕ) → skip n s e p ≡ got tt q → (p % 8 ≡ 0) × Moves s e p q (p + 8 * n) × (limit s e ≤ 2 ^ 27) × (limit s e ≤ 8 * length s)
+pub skip-gives : (s : List ℕ) (e p q n : ℕ) → skip n s e p ≡ got tt q
+    → (p % 8 ≡ 0) × Moves s e p q (p + 8 * n) × (limit s e ≤ 2 ^ 27) × (limit s e ≤ 8 * length s)
 unfolding skip here _>>=_ onward
-skip-gives s e p q n z = let w = passed (λ u. reach (λ q. q + 8 * n)) (no 4 0 0) s e p z in (eqb-true _ _ (w .0), reach-gives (λ q. q + 8 * n) s e p q (w .1), limit-le s e, limit-in s e)
+skip-gives s e p q n z =
+    let w = passed (λ u. reach (λ q. q + 8 * n)) alignment s e p z in
+    (eqb-true _ _ (w .0), reach-gives (λ q. q + 8 * n) s e p q (w .1), limit-le s e, limit-in s e)
+
+-- the bytes that a skip passes are bytes of the slice, and their places are small
+pub skip-inside : (n : ℕ) {s : List ℕ} {e p : ℕ} {d : Cursor} → At (skip n) s e p tt d → (p / 8 + n ≤ length s) × (p / 8 + n ≤ 2 ^ 24)
+skip-inside n {s} {e} {p} {d} g =
+    let m = skip-gives s e p (d .at) n (g .gives) in
+    let i : p + 8 * n ≤ limit s e = m .1 .inside in
+    let o : p % 8 ≡ 0 = m .0 in
+    let a : limit s e ≤ 2 ^ 27 = m .2 in
+    let b : limit s e ≤ 8 * length s = m .3 in
+    (omega arith, omega arith)
 
 -- ---- a peek, a part, the bytes: what the read or the skip that they are made of tells
-pub peek-seen : (s : List ℕ) (e p n v q : ℕ) → read n s e p ≡ got v q → peek n s e p ≡ got v p
+pub peek-seen : (n : ℕ) {s : List ℕ} {c d : Cursor} {v : ℕ} → At (read n) s (c .end) (c .at) v d → At (peek n) s (c .end) (c .at) v c
 unfolding peek staying
-peek-seen s e p n v q z = rw z
+peek-seen n g = record { gives = rw (g .gives); ends = refl }
 
-pub peek-off : (s : List ℕ) (e p n : ℕ) {r : No} → Off (read n) s e p r → Off (peek n) s e p (no 2 0 0)
-unfolding peek staying
-peek-off s e p n o = record { why = rw (o .why) }
+module _ (n : ℕ) {s : List ℕ} {e p : ℕ} where
+  pub peek-off : {r : No} → Off (read n) s e p r → Off (peek n) s e p buffer-overflow
+  unfolding peek staying
+  peek-off o = record { why = rw (o .why) }
 
-pub part-odd : (s : List ℕ) (e p n : ℕ) → (p % 32 ≡ 0 → ⊥) → Off (part n) s e p (no 4 0 0)
-unfolding part _>>=_ onward here require
-part-odd s e p n h = record { why = simp (ne-eqb _ _ h) }
+  pub part-odd : (p % 32 ≡ 0 → ⊥) → Off (part n) s e p alignment
+  unfolding part
+  part-odd h = off-here _ (fail _ (ne-eqb _ _ h))
 
-pub part-off : (s : List ℕ) (e p n : ℕ) {r : No} → p % 32 ≡ 0 → Off (skip n) s e p r → Off (part n) s e p r
-unfolding part _>>=_ onward here require
-part-off s e p n h o = record { why = simp (eq-eqb _ _ h, o .why) }
+  pub part-off : {r : No} → p % 32 ≡ 0 → Off (skip n) s e p r → Off (part n) s e p r
+  unfolding part
+  part-off h o = off-here _ (pass-off _ _ (eq-eqb _ _ h) (off _ o))
 
-pub part-to : (s : List ℕ) (e p n q : ℕ) → p % 32 ≡ 0 → skip n s e p ≡ got tt q → part n s e p ≡ got (p / 8 + n) q
-unfolding part _>>=_ onward here require give
-part-to s e p n q h z = simp (eq-eqb _ _ h, z)
+  pub part-to : {v : ℕ} {d : Cursor} → p % 32 ≡ 0 → v ≡ p / 8 + n → At (skip n) s e p tt d → At (part n) s e p v d
+  unfolding part
+  part-to h i g = rw i (from-here _ (pass _ _ (eq-eqb _ _ h) (on _ g ends)))
 
-pub bytes-none : (s : List ℕ) (e p n : ℕ) {r : No} → Off (skip n) s e p r → next-bytes n s e p ≡ []
-unfolding next-bytes shown
-bytes-none s e p n o = rw (o .why)
+  pub bytes-none : {r : No} → Off (skip n) s e p r → next-bytes n s e p ≡ []
+  unfolding next-bytes shown
+  bytes-none o = rw (o .why)
 
-pub bytes-some : (s : List ℕ) (e p n q : ℕ) → skip n s e p ≡ got tt q → next-bytes n s e p ≡ take n (drop (p / 8) s)
-unfolding next-bytes shown
-bytes-some s e p n q z = rw z
+  pub bytes-some : {d : Cursor} → At (skip n) s e p tt d → next-bytes n s e p ≡ take n (drop (p / 8) s)
+  unfolding next-bytes shown
+  bytes-some g = rw (g .gives)

@@ -1,6 +1,6 @@
--- How answers go through a `do` block: for the proofs of callers. Assumes nothing.
-use Prim.Native.Nat.{ℕ, _≤_, _<_}
-use mathlib.Core.Path.{_≡_, refl, sym, ap, _∙_, subst}
+-- How answers go through a `do` block, forward for a function that reads, and back for what an answer tells of its parts. Assumes nothing.
+use Prim.Native.Nat.{ℕ}
+use mathlib.Core.Path.{_≡_, refl, ap, _∙_, subst}
 use mathlib.Core.List.{List}
 use mathlib.Core.Bool.{Bool, true, false}
 use native.Mathlib.Omega.{arith}
@@ -70,9 +70,11 @@ module _ {R A : Type 0} {s : List ℕ} {e p : ℕ} (x y : Reader R A) {b : Bool}
   no-off i j = rw i j
 
 -- ---- back: what a `do` block that got a value tells of its parts
+-- a refusal is no value
 pub never : {R A : Type 0} {r : R} {a : A} {q : ℕ} → refused r ≡ got a q → ⊥
 never h = let z : _≡_ {A = ℕ} 0 1 = cc in omega arith
 
+-- a first reader got a value, and the rest got the whole's from there
 pub apart : {R A B : Type 0} (m : Reader R A) (f : A → Reader R B) (s : List ℕ) (e p : ℕ) {q : ℕ} {b : B}
     → (m >>= f) s e p ≡ got b q → (a : A) × (r : ℕ) × (m s e p ≡ got a r) × (f a s e r ≡ got b q)
 unfolding _>>=_ onward
@@ -82,12 +84,20 @@ apart {R} {A} {B} m f s e p {q} {b} z = go (m s e p) refl z
     go (got a r) i h = (a, r, i, h)
     go (refused r) i h = absurd (never h)
 
+-- a test passed
 pub passed : {R B : Type 0} (f : Unit {0} → Reader R B) (r : R) (s : List ℕ) (e p : ℕ) {q : ℕ} {b : Bool} {a : B}
     → (require b r >>= f) s e p ≡ got a q → (b ≡ true) × (f tt s e p ≡ got a q)
 unfolding _>>=_ require onward
 passed f r s e p {b = true} z = (refl, z)
 passed f r s e p {b = false} z = absurd (never z)
 
+-- the arm of a branch that was taken, for any fact P of the branch
+pub arms : {A X : Type 0} (P : A → Type 0) (b : Bool) (x y : A) → P (if b then x else y) → (b ≡ true → P x → X) → (b ≡ false → P y → X) → X
+unfolding if_then_else_
+arms P true x y h f g = f refl h
+arms P false x y h f g = g refl h
+
+-- two values got are the same value, at the same place
 pub got-value : {R A : Type 0} {a b : A} {p q : ℕ} → _≡_ {A = Answer R A} (got a p) (got b q) → a ≡ b
 got-value h = cc
 

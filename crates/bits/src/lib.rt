@@ -5,7 +5,7 @@ use terms::BUFFER_OVERFLOW;
 use terms::MAX_INPUT;
 use terms::VBR_OVERFLOW;
 ghost use mathlib.Core.Path.{_≡_};
-ghost use Prim.Native.Nat.{_+_, _-_, _*_, _%_, _^_, _≤_, _<_, min};
+ghost use Prim.Native.Nat.{_+_, _*_, _/_, _%_, _^_, _≤_, _<_, min};
 ghost use lib.ListN.{length, getD};
 ghost use Rattle.bits.specs.Word.{word};
 ghost use Rattle.bits.specs.Bits.{field, limit, read, peek, align, vbr, skip, next-bytes, bits-left, ends-at, signed-of as signedOf};
@@ -41,6 +41,7 @@ pub enum Take {
     Untaken(u64),
 }
 
+// The lesser of two numbers.
 fn least(a: u64, b: u64) -> u64
     ensures { λ r. ⌜ r ≡ min a b ⌝ }
 {
@@ -61,6 +62,7 @@ fn eight(a: u8, b: u8, c: u8, d: u8, e: u8, f: u8, g: u8, h: u8) -> u64
         + (h as u64) * 0x100_0000_0000_0000
 }
 
+// A byte as a word.
 fn wide(x: u8) -> u64
     ensures { λ r. ⌜ (r ≡ x) × (r < 256) ⌝ }
 {
@@ -107,14 +109,30 @@ fn power(k: u64) -> u64
     1 << k
 }
 
-// The field of n bits at the place p, byte by byte: near the end of the slice, or where nine bytes hold it. It calls itself, so that LLVM
-// never inlines it, and `field_at` and all above it stay short enough to be inlined.
+// The field of n bits at the place p, which nine bytes hold, all there: what the first eight have from p on, and above it the ninth's low bits.
+fn field_nine(s: &[u8], p: u64, n: u64) -> u64
+    requires { ⌜ (n ≤ 64) × (64 < p % 8 + n) × (p / 8 + 9 ≤ length (now s)) ⌝ }
+    ensures { λ r. ⌜ r ≡ field (now (s .entry)) p n ⌝ }
+{
+    let b = (p / 8) as usize;
+    let k = p % 8;
+    let m = 64 - k;
+    let x = eight_there(s, b) >> k;
+    let y = low(wide(s[b + 8]), n - m);
+    x + (y << m)
+}
+
+// The field of n bits at the place p where one load does not have it: by nine bytes, and byte by byte near the end of the slice. It calls
+// itself, so that LLVM never inlines it, and `field_at` and all above it stay short enough to be inlined.
 fn field_far(s: &[u8], p: u64, n: u64) -> u64
     requires { ⌜ (1 ≤ n) × (n ≤ 64) × (p + n ≤ 2 ^ 32) ⌝ }
     ensures { λ r. ⌜ r ≡ field (now (s .entry)) p n ⌝ }
 {
     let b = (p / 8) as usize;
     let k = p % 8;
+    if 64 < k + n && b + 9 <= s.len() {
+        return field_nine(s, p, n);
+    }
     let x = wide(byte_at(s, b)) >> k;
     if k + n <= 8 {
         return low(x, n);
@@ -313,6 +331,7 @@ impl Cursor {
         if at < bits { bits - at } else { 0 }
     }
 
+    // Whether no bits are left.
     pub fn is_at_end(self, s: &[u8]) -> bool
         ensures { λ r. ⌜ r ≡ ends-at (now (s .entry)) (self .end) (self .at) ⌝ }
     {

@@ -1,75 +1,56 @@
+-- `bitcode::read_scalar_operand` meets its contract: each kind's arm calls the reader that `value` names, and a letter is the one of the six bits read. Assumes nothing.
+use borrow.Author.Needs.{needs}
 use Rattle.bitcode.specs.Scalar.{value}
 use Rattle.bits.proofs.Steps.{on, off, ends}
-use borrow.Author.Needs.{needs}
 use Rattle.bitcode.proofs.read_scalar_operand.Statement.{statement}
 use Rattle.bitcode.proofs.read_scalar_operand.Tie as tie
-use Rattle.bitcode.proofs.read_scalar_operand.Reads as reads
-use Rattle.bitcode.proofs.read_scalar_operand.Lts as lts
-use Rattle.bitcode.proofs.letter.Reads as letter-reads
-use Rattle.bits.proofs.Cursor.read.Reads as read-reads
-use Rattle.bits.proofs.Cursor.read_vbr.Reads as read-vbr-reads
 
--- src/lib.rt:46:25
 enum-known-operand : tie.Need-enum-known-operand
 enum-known-operand c = search needs
 
--- src/lib.rt:47:23
 enum-known-operand-2 : tie.Need-enum-known-operand-2
 enum-known-operand-2 c = search needs
 
--- src/lib.rt:47:29
 read-requires : tie.Need-read-requires
 read-requires c κs = search needs
 
--- src/lib.rt:48:26
 enum-known-operand-3 : tie.Need-enum-known-operand-3
 enum-known-operand-3 c = search needs
 
--- src/lib.rt:48:32
 read-vbr-requires : tie.Need-read-vbr-requires
 read-vbr-requires c κs = search needs
 
--- src/lib.rt:49:32
 enum-told : tie.Need-enum-told
 enum-told c = search needs
 
--- src/lib.rt:49:32
 read-requires-2 : tie.Need-read-requires-2
 read-requires-2 c κs = search needs
 
--- src/lib.rt:50:27
 enum-known-e : tie.Need-enum-known-e
 enum-known-e c = search needs
 
--- src/lib.rt:51:25
 enum-known-v : tie.Need-enum-known-v
 enum-known-v c = search needs
 
--- src/lib.rt:51:46
 letter-requires : tie.Need-letter-requires
 letter-requires c κs = search needs
 
--- src/lib.rt:42:1
 returns : tie.Need-returns
 unfolding value
 returns c = rw (c .before .operand .given .1) ends
 
--- src/lib.rt:42:1
 returns-2 : tie.Need-returns-2
 unfolding value
 returns-2 c = rw (c .before .before .operand2 .given .1) (c .read .ensures)
 
--- src/lib.rt:42:1
 returns-3 : tie.Need-returns-3
 unfolding value
 returns-3 c = rw (c .before .before .operand3 .given .1) (c .read-vbr .ensures)
 
--- src/lib.rt:42:1
 returns-4 : tie.Need-returns-4
 unfolding value
 returns-4 c = rw (c .before .before .before .before .enum-told .given .1) (off _ (rw (c .before .e .given .1) at (c .before .before .before .read2 .ensures)))
 
--- src/lib.rt:42:1
 returns-5 : tie.Need-returns-5
 unfolding value
 returns-5 c = rw (c .before .before .before .before .before .enum-told .given .1) (on _ (rw (c .before .before .v .given .1) at (c .before .before .before .before .read2 .ensures)) (rw (c .letter .ensures) ends))
