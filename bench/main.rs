@@ -129,5 +129,5 @@ fn main() {
     for row in &rows {
         println!("{:<30} {:>9.2} {:>9.2} {:>7.2}", row.name, row.best[0], row.best[1], row.best[0] / row.best[1]);
     }
-    println!("best of {TURNS} turns over {BYTES} bytes; the sums agree");
+    println!("best of {TURNS} turns over {BYTES} bytes on {}; the sums agree", std::env::consts::ARCH);
 }

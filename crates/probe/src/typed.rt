@@ -9,38 +9,11 @@ use bitcode::NextU16;
 use bitcode::NextU32;
 use bitcode::NextU64;
 use bitcode::Operands;
-ghost use Prim.Native.Nat.{_+_, _≤_};
-ghost use lib.ListN.{length};
+use bits::Cursor;
+use bits::Read;
 
 // The numbers that the most bytes of a question make.
 const MOST_NUMBERS: usize = 32;
-
-// Eight bytes as one number, the first one lowest.
-fn eight(a: u8, b: u8, c: u8, d: u8, e: u8, f: u8, g: u8, h: u8) -> u64 {
-    (a as u64)
-        + (b as u64) * 0x100
-        + (c as u64) * 0x1_0000
-        + (d as u64) * 0x100_0000
-        + (e as u64) * 0x1_0000_0000
-        + (f as u64) * 0x100_0000_0000
-        + (g as u64) * 0x1_0000_0000_0000
-        + (h as u64) * 0x100_0000_0000_0000
-}
-
-fn number_at(s: &[u8], k: usize) -> u64
-    requires { ⌜ k + 8 ≤ length (now s) ⌝ }
-{
-    eight(
-        s[k],
-        s[k + 1],
-        s[k + 2],
-        s[k + 3],
-        s[k + 4],
-        s[k + 5],
-        s[k + 6],
-        s[k + 7],
-    )
-}
 
 fn set_number(store: &mut [u64], i: usize, v: u64) {
     if i < store.len() {
@@ -48,15 +21,21 @@ fn set_number(store: &mut [u64], i: usize, v: u64) {
     }
 }
 
-// Bytes as numbers, eight a number; a rest of fewer is dropped. Tells how many numbers there are.
+// Bytes as numbers, eight a number, read by the bit layer; a rest of fewer is dropped. Tells how many numbers there are.
 fn numbers(s: &[u8], store: &mut [u64]) -> usize {
-    let n = s.len() / 8;
+    let mut c = Cursor::new(s.len() as u64);
     let mut i = 0;
-    while i < n {
-        set_number(store, i, number_at(s, 8 * i));
+    while i < MOST_NUMBERS {
+        match c.read(s, 64) {
+            Read::Refused(_) => return i,
+            Read::Value(v, d) => {
+                set_number(store, i, v);
+                c = d;
+            }
+        }
         i += 1;
     }
-    n
+    i
 }
 
 // The first n numbers, and all where there are fewer.
