@@ -1,0 +1,139 @@
+-- Demand 3 at two inputs, and the exchanged inputs by evaluation. The stores are just large enough. Assumes nothing.
+use mathlib.Core.Path.{_≡_, refl, sym, _∙_}
+use mathlib.Core.Bool.{false, false≢true}
+use mathlib.Core.List.{List, [], _∷_}
+use Prim.Native.Nat.{ℕ}
+use native.Mathlib.Omega.{arith}
+use lib.Dec.{eqb}
+use Rattle.bits.specs.Reader.{onward, _>>=_, give, stop, require, if_then_else_, here, turns, at-place, placed}
+use Rattle.bits.specs.Bits.{bit, field, limit, field-at, reach, read, align, chunks, vbr, ends-at}
+use Rattle.bitcode.specs.declared.ScalarOperand.the-variants.{Literal, Fixed, Vbr, Char6}
+use Rattle.bitcode.specs.declared.Signature.{Signature}
+use Rattle.bitcode.specs.Scalar.{ascii, value}
+use Rattle.bitcode.specs.Header.{word, wrapper-magic, wrapped, signature}
+use Rattle.abbrev.specs.Abbrev.{blob, array, abbreviation, width, kind, operand, element, also, rest-of, operands, define, number-of, lookup}
+use Rattle.abbrev.specs.BlockInfo.{shared, shared-for, every, or-else, readable, chosen, info-definition, set-bid, letters, block-name, record-name, info-record, info-numbered, info-item, info-on, info}
+use Rattle.walk.specs.Record.{no-load, list-load, blob-load, a-record, stored, values, repeated, octets, bytes-if, bytes, payload-part, scalar-part, unabbreviated, array-kind, rest, load-list, record-list}
+use Rattle.walk.specs.Piece.{head, Piece, the-record, definition, blockinfo, skipped, block, done, _then_, Event, enter, skip, leave, record-event, record-of, entering, skipping, leaving, events, all-events, count, counts, store, all-store, added, all-added, own, after, entered}
+use Rattle.walk.specs.Item.{heading, used, begun, begin, event-room, leave-room, fits, finish, at-end, opening, within, body-of, complete, item, going-on, items, nested}
+use Rattle.walk.specs.Walk.{top-level, start, top-items, Outcome, denied, accepted, outcome, walk-stream, walk-by, listed, those, walk}
+use Rattle.exchange.specs.Spot.{Spot, here as at-spot, later, inside, plug, IsBlock, Quiet, Quiets, from-of, head-end, to-of}
+use Rattle.exchange.specs.Exchange.{exchange}
+use Rattle.exchange.specs.Input.{base-of}
+use Rattle.exchange.specs.Demand3.{exchanged}
+use Rattle.exchange.specs.Groups.{Exchanged, demand-3}
+
+shown : Outcome → List Event
+shown (denied r) = []
+shown (accepted h xs) = all-events xs
+
+-- ---- no wrapper; two blocks at the top level, the first with a block in it
+flat : List ℕ
+flat =
+    0x42 ∷ 0x43 ∷ 0xC0 ∷ 0xDE ∷ 0x21 ∷ 0x0C ∷ 0x00 ∷ 0x00 ∷ 0x05 ∷ 0x00 ∷ 0x00 ∷ 0x00 ∷ 0x0B ∷ 0x84 ∷ 0xC2 ∷ 0x48 ∷
+    0xC2 ∷ 0x00 ∷ 0x00 ∷ 0x00 ∷ 0x01 ∷ 0x00 ∷ 0x00 ∷ 0x00 ∷ 0x3B ∷ 0x02 ∷ 0x53 ∷ 0x00 ∷ 0x00 ∷ 0x00 ∷ 0x00 ∷ 0x00 ∷
+    0x29 ∷ 0x10 ∷ 0x00 ∷ 0x00 ∷ 0x01 ∷ 0x00 ∷ 0x00 ∷ 0x00 ∷ 0x23 ∷ 0x04 ∷ 0x08 ∷ 0x00 ∷ 0x0F ∷ 0x41 ∷ 0x02 ∷ 0x00 ∷
+    []
+
+flat-header : Signature
+flat-header = record { magic = 0xdec04342; magic2 = 0; version = 0; offset = 4; size = 44; cpu = 0 }
+
+-- block 8: a record of code 1 with the operands 5 and 6; block 9 with a record of code 7 with the operand 70
+flat-first : Piece
+flat-first = block 0 (head 8 3 8 20)
+    (_then_ (the-record 64 8 0 (a-record 1 (5 ∷ 6 ∷ []) no-load))
+    (_then_ (block 91 (head 9 3 20 4) (_then_ (the-record 160 9 2 (a-record 7 (70 ∷ []) no-load)) (done 187))) (done 192)))
+
+-- block 10: a record of code 2 with the operand 8
+flat-second : Piece
+flat-second = block 224 (head 10 4 36 4) (_then_ (the-record 288 10 3 (a-record 2 (8 ∷ []) no-load)) (done 310))
+
+-- behind them: a record of code 3 with the operand 9
+flat-spot : Spot
+flat-spot = at-spot (_then_ (the-record 320 4294967295 4 (a-record 3 (9 ∷ []) no-load)) (done 340))
+
+flat-swapped : List Event
+flat-swapped =
+    enter 10 4 8 4 ∷ record-event 10 2 0 1 0 0 0 ∷ leave 10 ∷
+    enter 8 3 20 20 ∷ record-event 8 1 1 2 0 0 0 ∷ enter 9 3 32 4 ∷ record-event 9 7 3 1 0 0 0 ∷ leave 9 ∷ leave 8 ∷
+    record-event 4294967295 3 4 1 0 0 0 ∷
+    []
+
+-- ---- a wrapper; BLOCKINFO; then block 8, in it an entered block and a skipped one
+deep : List ℕ
+deep =
+    0xDE ∷ 0xC0 ∷ 0x17 ∷ 0x0B ∷ 0x01 ∷ 0x00 ∷ 0x00 ∷ 0x00 ∷ 0x14 ∷ 0x00 ∷ 0x00 ∷ 0x00 ∷ 0x50 ∷ 0x00 ∷ 0x00 ∷ 0x00 ∷
+    0x07 ∷ 0x00 ∷ 0x00 ∷ 0x00 ∷ 0x42 ∷ 0x43 ∷ 0xC0 ∷ 0xDE ∷ 0x01 ∷ 0x08 ∷ 0x00 ∷ 0x00 ∷ 0x02 ∷ 0x00 ∷ 0x00 ∷ 0x00 ∷
+    0x07 ∷ 0x41 ∷ 0xE2 ∷ 0x90 ∷ 0x61 ∷ 0x08 ∷ 0x00 ∷ 0x00 ∷ 0x21 ∷ 0x0C ∷ 0x00 ∷ 0x00 ∷ 0x0D ∷ 0x00 ∷ 0x00 ∷ 0x00 ∷
+    0x12 ∷ 0x09 ∷ 0x94 ∷ 0x02 ∷ 0x61 ∷ 0x62 ∷ 0x00 ∷ 0x00 ∷ 0x49 ∷ 0x20 ∷ 0x00 ∷ 0x00 ∷ 0x05 ∷ 0x00 ∷ 0x00 ∷ 0x00 ∷
+    0x64 ∷ 0x01 ∷ 0xD8 ∷ 0x64 ∷ 0x14 ∷ 0x20 ∷ 0xA3 ∷ 0x85 ∷ 0x06 ∷ 0x01 ∷ 0x00 ∷ 0x00 ∷ 0x7A ∷ 0x00 ∷ 0x00 ∷ 0x00 ∷
+    0x00 ∷ 0x00 ∷ 0x00 ∷ 0x00 ∷ 0x51 ∷ 0x10 ∷ 0x00 ∷ 0x00 ∷ 0x01 ∷ 0x00 ∷ 0x00 ∷ 0x00 ∷ 0xFF ∷ 0xFF ∷ 0xFF ∷ 0xFF ∷
+    0x0B ∷ 0x82 ∷ 0x04 ∷ 0x00 ∷
+    []
+
+deep-skips : List ℕ
+deep-skips = 10 ∷ []
+
+deep-header : Signature
+deep-header = record { magic = 0x0B17C0DE; magic2 = 0xdec04342; version = 1; offset = 20; size = 80; cpu = 7 }
+
+-- block 9: a record of code 6 with the Char6 array "aB", by the shared abbreviation; a local one; by it a record of code 2 with the operand 40
+-- and a blob
+deep-first : Piece
+deep-first = block 256 (head 9 4 40 20)
+    (_then_ (the-record 320 9 0 (a-record 6 [] (list-load 2 (97 ∷ 66 ∷ []))))
+    (_then_ (definition (abbreviation (Literal 2 ∷ Vbr 6 ∷ []) blob))
+    (_then_ (the-record 376 9 2 (a-record 2 (40 ∷ []) (blob-load 52 (0x7A ∷ [])))) (done 448))))
+
+deep-second : Piece
+deep-second = skipped 480 (head 10 2 68 4)
+
+-- before them BLOCKINFO; in block 8 a local abbreviation and a record with a blob; behind them a record of code 1 with the operand 9
+deep-spot : Spot
+deep-spot =
+    later (blockinfo 0 (head 0 2 8 8) (shared 9 (abbreviation (Fixed 3 ∷ []) (array Char6)) ∷ []))
+    (inside 128 (head 8 3 24 52)
+    (later (definition (abbreviation (Literal 4 ∷ []) blob))
+    (later (the-record 213 8 0 (a-record 4 [] (blob-load 28 (0x61 ∷ 0x62 ∷ []))))
+    (at-spot (_then_ (the-record 576 8 3 (a-record 1 (9 ∷ []) no-load)) (done 597)))))
+    (done 608))
+
+deep-swapped : List Event
+deep-swapped =
+    enter 8 3 24 52 ∷ record-event 8 4 0 0 3 28 2 ∷
+    skip 10 2 40 4 ∷
+    enter 9 4 52 20 ∷ record-event 9 6 0 0 2 0 2 ∷ record-event 9 2 2 1 3 64 1 ∷ leave 9 ∷
+    record-event 8 1 3 1 0 0 0 ∷ leave 8 ∷
+    []
+
+-- ---- what the walk gives, by evaluation: as they are, and exchanged
+evaluated :
+    (walk flat [] 80 5 ≡ accepted flat-header (plug flat-spot flat-first flat-second))
+    × (shown (walk (exchanged flat-first flat-second (base-of flat) flat) [] 80 5) ≡ flat-swapped)
+    × (walk deep deep-skips 72 4 ≡ accepted deep-header (plug deep-spot deep-first deep-second))
+    × (shown (walk (exchanged deep-first deep-second (base-of deep) deep) deep-skips 72 4) ≡ deep-swapped)
+unfolding flat flat-header flat-first flat-second flat-spot flat-swapped deep deep-skips deep-header deep-first deep-second deep-spot deep-swapped
+    shown plug exchanged base-of exchange from-of to-of head-end onward _>>=_ give stop require if_then_else_ here turns at-place placed
+    bit field limit field-at reach read align chunks vbr ends-at ascii value word wrapped signature
+    width kind operand element also rest-of operands define number-of lookup
+    shared-for every or-else readable chosen info-definition set-bid letters block-name record-name info-record info-numbered info-item info-on info
+    stored values repeated octets bytes-if bytes payload-part scalar-part unabbreviated array-kind rest load-list record-list
+    record-of entering skipping leaving events all-events count counts store all-store added all-added own after entered
+    heading used begun begin event-room leave-room fits finish at-end opening within body-of complete item going-on items nested
+    top-level start top-items outcome walk-stream walk-by listed those walk
+evaluated = (refl, refl, refl, refl)
+
+-- ---- demand 3 applies to both
+flat-plain : eqb (word flat 0) wrapper-magic ≡ false
+unfolding word flat
+flat-plain = refl
+
+flat-holds : Exchanged flat [] 80 5 flat-header flat-spot flat-first flat-second
+unfolding IsBlock Quiet Quiets flat-first flat-second from-of
+flat-holds = demand-3 flat [] 80 5 flat-header flat-spot flat-first flat-second (evaluated .0)
+    tt tt (tt, ((tt, tt), tt)) (tt, tt) refl (λ z. absurd (false≢true (sym flat-plain ∙ z)))
+
+deep-holds : Exchanged deep deep-skips 72 4 deep-header deep-spot deep-first deep-second
+unfolding IsBlock Quiet Quiets deep deep-first deep-second from-of base-of word if_then_else_
+deep-holds = demand-3 deep deep-skips 72 4 deep-header deep-spot deep-first deep-second (evaluated .2)
+    tt tt (tt, (tt, (tt, tt))) tt refl (λ z. omega arith)

@@ -1,0 +1,309 @@
+-- What was met, moved: bit and byte places by up - down (given in bits), operand places by og - oo; and what pieces take of the rooms.
+-- Assumes nothing.
+use mathlib.Core.Path.{_≡_, refl, ap, ap₂}
+use mathlib.Core.Bool.{Bool, true, false, false≢true}
+use mathlib.Core.List.{[], _++_}
+use mathlib.Core.Option.{Option, none as nothing, some}
+use Prim.Native.Nat.{ℕ, _+_, _-_, _*_, _/_, _%_, _≤_, _<_}
+use native.Mathlib.Omega.{arith}
+use lib.ListN.{length}
+use Rattle.bitcode.specs.declared.ScalarOperand.{ScalarOperand}
+use Rattle.bitcode.specs.declared.ScalarOperand.the-variants.{Literal, Fixed, Vbr, Char6}
+use Rattle.abbrev.specs.BlockInfo.{shared-for}
+use Rattle.walk.specs.Record.{Load, no-load, list-load, blob-load, Record, a-record, Part, whole, listing, blobbing, array-kind, load-list, record-list, load-blob, record-blob}
+use Rattle.walk.specs.Piece.{Head, head, Piece, the-record, definition, blockinfo, skipped, block, Pieces, done, _then_, count, counts, store, all-store, blobs, all-blobs, added, all-added, own, State, after, entered}
+use Rattle.walk.specs.Item.{Begun, closing, heads, defines, records, Opening, ended, defined, recorded, headed}
+
+-- ---- what pieces take of the rooms
+-- a leave event; the top level has none
+unfoldable pub tail : Bool → ℕ
+tail true = 0
+tail false = 1
+
+pub tail-top : (b : Bool) (n : ℕ) → b ≡ true → tail b ≤ n
+unfolding tail
+tail-top true n h = omega arith
+tail-top false n h = absurd (false≢true h)
+
+-- of the operand store, by a record's scalar part
+unfoldable pub PartTakes : ℕ → Part → Type 0
+PartTakes left (whole r) = length (record-list r) ≤ left
+PartTakes left (listing code vs k n) = length vs ≤ left
+PartTakes left (blobbing code vs n) = length vs ≤ left
+
+-- by a piece; by what a block holds, with its enter and its leave event; by the items of a block; by an item
+unfoldable pub Takes : State → Piece → Type 0
+Takes st x = (count x ≤ st .room) × (length (store x) ≤ st .left)
+
+unfoldable pub Inner : State → Pieces → Type 0
+Inner st xs = (counts xs + 2 ≤ st .room) × (length (all-store xs) ≤ st .left)
+
+unfoldable pub Holds : Bool → State → Pieces → Type 0
+Holds top st xs = (counts xs + tail top ≤ st .room) × (length (all-store xs) ≤ st .left)
+
+unfoldable pub Wants : Bool → State → Option Piece → Type 0
+Wants top st nothing = tail top ≤ st .room
+Wants top st (some x) = Takes st x
+
+-- ---- where pieces stand
+-- a block that began at p and ended at q
+unfoldable pub Began : Piece → ℕ → ℕ → Type 0
+Began (the-record from b first r) p q = Unit {0}
+Began (definition a) p q = Unit {0}
+Began (blockinfo from (head b w at n) sh) p q = (from < 8 * at) × (q ≡ 8 * at + 8 * n) × (from ≡ p) × (q % 32 ≡ 0)
+Began (skipped from (head b w at n)) p q = (from < 8 * at) × (q ≡ 8 * at + 8 * n) × (from ≡ p) × (q % 32 ≡ 0)
+Began (block from (head b w at n) inner) p q = (from < 8 * at) × (q ≡ 8 * at + 8 * n) × (from ≡ p) × (q % 32 ≡ 0)
+
+unfoldable pub size : Head → ℕ
+size (head b w at n) = n
+
+-- a head that ends at q
+unfoldable pub Stands : Head → ℕ → Type 0
+Stands (head b w at n) q = (q ≡ 8 * at) × (q % 32 ≡ 0) × (n % 4 ≡ 0)
+
+-- and whose body ends at the bit `lim` at the latest
+unfoldable pub Headed : ℕ → Head → ℕ → Type 0
+Headed lim (head b w at n) q = (q ≡ 8 * at) × (q % 32 ≡ 0) × (q + 8 * n ≤ lim) × (n % 4 ≡ 0)
+
+-- an array's kind is not a blob's
+pub kind-small : (k : ScalarOperand) → (0 < array-kind k) × (array-kind k < 3)
+unfolding array-kind
+kind-small (Literal v) = omega arith
+kind-small (Fixed w) = omega arith
+kind-small (Vbr w) = omega arith
+kind-small Char6 = omega arith
+
+-- ---- moved
+module _ (up down : ℕ) where
+  -- a bit place, and a byte place
+  abbrev pub mv : ℕ → ℕ
+  mv p = p + up - down
+
+  abbrev pub bmv : ℕ → ℕ
+  bmv at = at + up / 8 - down / 8
+
+  unfoldable pub move-load : Load → Load
+  move-load no-load = no-load
+  move-load (list-load k xs) = list-load k xs
+  move-load (blob-load at bs) = blob-load (bmv at) bs
+
+  unfoldable pub move-record : Record → Record
+  move-record (a-record code vs l) = a-record code vs (move-load l)
+
+  unfoldable pub move-part : Part → Part
+  move-part (whole r) = whole (move-record r)
+  move-part (listing code vs k n) = listing code vs k n
+  move-part (blobbing code vs n) = blobbing code vs n
+
+  unfoldable pub move-head : Head → Head
+  move-head (head b w at n) = head b w (bmv at) n
+
+  unfoldable pub move-begun : Begun → Begun
+  move-begun closing = closing
+  move-begun (heads h) = heads (move-head h)
+  move-begun (defines a) = defines a
+  move-begun (records x) = records (move-part x)
+
+  -- no place falls below zero; and an array's kind is not a blob's
+  unfoldable pub LoadFine : Load → Type 0
+  LoadFine no-load = Unit {0}
+  LoadFine (list-load k xs) = (0 < k) × (k < 3)
+  LoadFine (blob-load at bs) = down / 8 ≤ at + up / 8
+
+  unfoldable pub RecordFine : Record → Type 0
+  RecordFine (a-record code vs l) = LoadFine l
+
+  unfoldable pub PartFine : Part → Type 0
+  PartFine (whole r) = RecordFine r
+  PartFine (listing code vs k n) = Unit {0}
+  PartFine (blobbing code vs n) = Unit {0}
+
+  unfoldable pub HeadFine : Head → Type 0
+  HeadFine (head b w at n) = down / 8 ≤ at + up / 8
+
+  -- the moved head's body ends at the bit `lim` at the latest
+  unfoldable pub Fitting : ℕ → Head → Type 0
+  Fitting lim (head b w at n) = 8 * bmv at + 8 * n ≤ lim
+
+  -- what an item's front that ended at q tells of the first run; what it asks of the second's room
+  unfoldable pub Front : State → Begun → ℕ → Type 0
+  Front st closing q = Unit {0}
+  Front st (heads h) q = Stands h q
+  Front st (defines a) q = Unit {0}
+  Front st (records x) q = PartTakes (st .left) x × PartFine x
+
+  unfoldable pub FrontAsks : State → Begun → Type 0
+  FrontAsks st closing = Unit {0}
+  FrontAsks st (heads h) = Unit {0}
+  FrontAsks st (defines a) = Unit {0}
+  FrontAsks st (records x) = PartTakes (st .left) x
+
+  -- what an opening asks of the second run's rooms, and of its end `lim`
+  unfoldable pub Asks : ℕ → Bool → State → Opening → Type 0
+  Asks lim top st ended = tail top ≤ st .room
+  Asks lim top st (defined a) = Unit {0}
+  Asks lim top st (recorded from b first r) = (0 < st .room) × (length (record-list r) ≤ st .left)
+  Asks lim top st (headed from h) = Fitting lim h
+
+  module _ (og oo : ℕ) where
+    -- what an opening that began at p₀ and ended at q tells of the first run, in a body that ends at `lim`
+    unfoldable pub Open : ℕ → Bool → State → ℕ → Opening → ℕ → Type 0
+    Open lim top st p₀ ended q = tail top ≤ st .room
+    Open lim top st p₀ (defined a) q = (p₀ < q) × (p₀ < lim)
+    Open lim top st p₀ (recorded from b first r) q =
+        (p₀ < q) × (p₀ < lim) × (0 < st .room) × (length (record-list r) ≤ st .left) × (oo ≤ first + og) × RecordFine r
+        × (first ≡ st .fill) × (from ≡ p₀)
+    Open lim top st p₀ (headed from h) q = (from < q) × Headed lim h q × (from ≡ p₀)
+
+    unfoldable mutual
+      pub Fine : Piece → Type 0
+      Fine (the-record from b first r) = (oo ≤ first + og) × RecordFine r × (down ≤ from + up)
+      Fine (definition a) = Unit {0}
+      Fine (blockinfo from h sh) = HeadFine h × (down ≤ from + up)
+      Fine (skipped from h) = HeadFine h × (down ≤ from + up)
+      Fine (block from h inner) = HeadFine h × (down ≤ from + up) × Fines inner
+
+      pub Fines : Pieces → Type 0
+      Fines (done end) = down ≤ end + up
+      Fines (_then_ x xs) = Fine x × Fines xs
+
+    -- what an item that began at p and ended at q tells of the first run; it takes a bit at least
+    unfoldable pub Made : ℕ → Bool → State → ℕ → Option Piece → ℕ → Type 0
+    Made lim top st p nothing q = tail top ≤ st .room
+    Made lim top st p (some x) q = (p < q) × (p < lim) × Takes st x × Began x p q × Fine x
+
+    unfoldable mutual
+      pub move-piece : Piece → Piece
+      move-piece (the-record from b first r) = the-record (mv from) b (first + og - oo) (move-record r)
+      move-piece (definition a) = definition a
+      move-piece (blockinfo from h sh) = blockinfo (mv from) (move-head h) sh
+      move-piece (skipped from h) = skipped (mv from) (move-head h)
+      move-piece (block from h inner) = block (mv from) (move-head h) (move-pieces inner)
+
+      pub move-pieces : Pieces → Pieces
+      move-pieces (done end) = done (mv end)
+      move-pieces (_then_ x xs) = _then_ (move-piece x) (move-pieces xs)
+
+    unfoldable pub move-opening : Opening → Opening
+    move-opening ended = ended
+    move-opening (defined a) = defined a
+    move-opening (recorded from b first r) = recorded (mv from) b (first + og - oo) (move-record r)
+    move-opening (headed from h) = headed (mv from) (move-head h)
+
+    unfoldable pub move-option : Option Piece → Option Piece
+    move-option nothing = nothing
+    move-option (some x) = some (move-piece x)
+
+    -- ---- moving keeps the stored operands, the blobs, what is added, what is defined and the number of events
+    load-list-move : (l : Load) → load-list (move-load l) ≡ load-list l
+    unfolding load-list move-load
+    load-list-move no-load = refl
+    load-list-move (list-load k xs) = refl
+    load-list-move (blob-load at n) = refl
+
+    record-list-move : (r : Record) → record-list (move-record r) ≡ record-list r
+    unfolding record-list move-record
+    record-list-move (a-record code vs l) = ap (λ x. vs ++ x) (load-list-move l)
+
+    mutual
+      unfolding store all-store move-piece move-pieces
+
+      pub store-move : (x : Piece) → store (move-piece x) ≡ store x
+      store-move (the-record from b first r) = record-list-move r
+      store-move (definition a) = refl
+      store-move (blockinfo from h sh) = refl
+      store-move (skipped from h) = refl
+      store-move (block from h inner) = all-store-move inner
+
+      pub all-store-move : (xs : Pieces) → all-store (move-pieces xs) ≡ all-store xs
+      all-store-move (done end) = refl
+      all-store-move (_then_ x xs) = ap₂ (λ a b. a ++ b) (store-move x) (all-store-move xs)
+
+    load-blob-move : (l : Load) → load-blob (move-load l) ≡ load-blob l
+    unfolding load-blob move-load
+    load-blob-move no-load = refl
+    load-blob-move (list-load k xs) = refl
+    load-blob-move (blob-load at bs) = refl
+
+    record-blob-move : (r : Record) → record-blob (move-record r) ≡ record-blob r
+    unfolding record-blob move-record
+    record-blob-move (a-record code vs l) = load-blob-move l
+
+    mutual
+      unfolding blobs all-blobs move-piece move-pieces
+
+      pub blobs-move : (x : Piece) → blobs (move-piece x) ≡ blobs x
+      blobs-move (the-record from b first r) = record-blob-move r
+      blobs-move (definition a) = refl
+      blobs-move (blockinfo from h sh) = refl
+      blobs-move (skipped from h) = refl
+      blobs-move (block from h inner) = all-blobs-move inner
+
+      pub all-blobs-move : (xs : Pieces) → all-blobs (move-pieces xs) ≡ all-blobs xs
+      all-blobs-move (done end) = refl
+      all-blobs-move (_then_ x xs) = ap₂ (λ a b. a ++ b) (blobs-move x) (all-blobs-move xs)
+
+    mutual
+      unfolding added all-added move-piece move-pieces
+
+      pub added-move : (x : Piece) → added (move-piece x) ≡ added x
+      added-move (the-record from b first r) = refl
+      added-move (definition a) = refl
+      added-move (blockinfo from h sh) = refl
+      added-move (skipped from h) = refl
+      added-move (block from h inner) = all-added-move inner
+
+      pub all-added-move : (xs : Pieces) → all-added (move-pieces xs) ≡ all-added xs
+      all-added-move (done end) = refl
+      all-added-move (_then_ x xs) = ap₂ (λ a b. a ++ b) (added-move x) (all-added-move xs)
+
+    pub own-move : (x : Piece) → own (move-piece x) ≡ own x
+    unfolding own move-piece
+    own-move (the-record from b first r) = refl
+    own-move (definition a) = refl
+    own-move (blockinfo from h sh) = refl
+    own-move (skipped from h) = refl
+    own-move (block from h inner) = refl
+
+    mutual
+      unfolding count counts move-piece move-pieces
+
+      pub count-move : (x : Piece) → count (move-piece x) ≡ count x
+      count-move (the-record from b first r) = refl
+      count-move (definition a) = refl
+      count-move (blockinfo from h sh) = refl
+      count-move (skipped from h) = refl
+      count-move (block from h inner) = ap (λ n. n + 2) (counts-move inner)
+
+      pub counts-move : (xs : Pieces) → counts (move-pieces xs) ≡ counts xs
+      counts-move (done end) = refl
+      counts-move (_then_ x xs) = ap₂ (λ a b. a + b) (count-move x) (counts-move xs)
+
+-- ---- two states that differ in the rooms, and in the fill mark by og - oo
+pub record Like (og oo : ℕ) (st st' : State) : Type 0 where
+  pub l-shareds : st' .shareds ≡ st .shareds
+  pub l-mine : st' .mine ≡ st .mine
+  pub l-locals : st' .locals ≡ st .locals
+  pub l-fill : st' .fill + oo ≡ st .fill + og
+
+pub like-self : (st : State) → Like 0 0 st st
+like-self st = record { l-shareds = refl; l-mine = refl; l-locals = refl; l-fill = refl }
+
+pub after-like : (up down : ℕ) {og oo : ℕ} {st st' : State} (x : Piece) → Like og oo st st'
+    → Like og oo (after x st) (after (move-piece up down og oo x) st')
+unfolding after
+after-like up down {og} {oo} x l = record {
+  l-shareds = ap₂ (λ a b. a ++ b) (l .l-shareds) (added-move up down og oo x);
+  l-mine = ap₂ (λ a b. a ++ b) (l .l-mine) (own-move up down og oo x);
+  l-locals = ap₂ (λ a b. a + length b) (l .l-locals) (own-move up down og oo x);
+  l-fill = omega (arith, ap length (store-move up down og oo x));
+}
+
+pub entered-like : {og oo : ℕ} {st st' : State} (b : ℕ) → Like og oo st st' → Like og oo (entered b st) (entered b st')
+unfolding entered
+entered-like b l = record {
+  l-shareds = l .l-shareds;
+  l-mine = ap (λ a. shared-for b a) (l .l-shareds);
+  l-locals = l .l-locals;
+  l-fill = l .l-fill;
+}
