@@ -115,12 +115,12 @@ info-records now =
     branch (eqb code 3) (λ i. record-names now n) (λ i. stops _ tt)))))
 
 -- an item adds a shared abbreviation only where there is room
-unfoldable InfoKeeps : ℕ → InfoItem → Type 0
+unfoldable pub InfoKeeps : ℕ → InfoItem → Type 0
 InfoKeeps have info-end = Unit {0}
 InfoKeeps have (info-adds x) = have < max-shared
 InfoKeeps have (info-now b) = Unit {0}
 
-info-items : (w : ℕ) (now : Option ℕ) (have : ℕ) {s : List ℕ} {e p : ℕ} → Answers (info-item every w now have) s e p (λ x q. (p < q) × InfoKeeps have x) Known
+pub info-items : (w : ℕ) (now : Option ℕ) (have : ℕ) {s : List ℕ} {e p : ℕ} → Answers (info-item every w now have) s e p (λ x q. (p < q) × InfoKeeps have x) Known
 unfolding info-item info-numbered InfoKeeps Known
 info-items w now have =
     on _ (numbers w) (λ n q l h.

@@ -1,166 +1,70 @@
--- Demand 3 over the whole call, in pieces: the input with two neighbouring blocks exchanged is accepted, and its walk meets the same but for the two,
--- exchanged and moved. Assumes nothing.
-use mathlib.Core.Path.{_≡_, refl, sym, ap, ap₂, _∙_, subst}
-use mathlib.Core.Bool.{Bool, true, false}
-use mathlib.Core.List.{List}
-use Prim.Native.Nat.{ℕ, suc, _+_, _-_, _*_, _/_, _%_, _≤_, _<_}
-use native.Mathlib.Omega.{arith}
-use lib.ListN.{getD, length}
-use lib.Seq.{length-slice}
-use lib.Dec.{ltb, eqb}
-use Rattle.terms.specs.Limits.{max-input, max-open}
-use Rattle.bits.specs.Reader.{if_then_else_, got, turns}
-use Rattle.bits.specs.Bits.{bit}
+-- DEMAND 3: "Take an accepted input with two blocks that the walk meets, one directly behind the other in the same parent, the first starting on a 32-bit
+-- boundary of the stream, neither touching a wrapper's 20 bytes, and no BLOCKINFO read as either or inside either. Exchange their bytes. By demand 2's
+-- definition, with the same skip list and store sizes, the new input is accepted, the two groups of events change places, and every other event is the
+-- same. Within a group only byte places and operand store places move; operand and blob contents stay." Assumes nothing.
+use mathlib.Core.Path.{_≡_}
+use mathlib.Core.List.{List, [], _∷_, _++_}
+use Prim.Native.Nat.{ℕ, _+_, _/_, _%_, _≤_, _<_}
+use lib.ListN.{length}
 use Rattle.bitcode.specs.declared.Signature.{Signature}
-use Rattle.bitcode.specs.Header.{word, wrapper-magic, opened}
-use Rattle.walk.specs.Piece.{Piece, store}
-use Rattle.walk.specs.Item.{Pass}
-use Rattle.walk.specs.Walk.{top-level, start, top-items, accepted, walk-by}
-use Rattle.exchange.specs.Tests.{if-true}
-use Rattle.exchange.specs.Shift.{Fine, move-piece}
-use Rattle.exchange.specs.Spot.{Spot, plug, IsBlock, Quiet, from-of, to-of}
-use Rattle.exchange.specs.Apart.{many}
-use Rattle.exchange.specs.Keep.{limit-le, still, items-facts}
-use Rattle.exchange.specs.Swap.{Blind, Bounds, bounds, Traded, swap-items}
-use Rattle.exchange.specs.Exchange.{exchange, length-exchange, exchange-low, bits-low, bits-up, bits-down, bits-high, part-exchange}
-use Rattle.exchange.specs.Call.{walk-apart, walk-make}
-use Rattle.exchange.specs.Input.{base-of, end-of, SameHeader, lies, same-signature}
+use Rattle.bitcode.specs.Header.{word, wrapper-magic}
+use Rattle.walk.specs.Piece.{Piece, Pieces, Event, enter, skip, leave, record-event, events, all-events, store, all-store, blobs, all-blobs}
+use Rattle.walk.specs.Walk.{accepted, walk}
+use Rattle.exchange.specs.Spot.{Spot, plug, IsBlock, Quiet, from-of, bytes-of, front, back, front-store, back-store, front-blobs, back-blobs}
+use Rattle.exchange.specs.Input.{base-of, exchanged}
 
--- ---- two blocks side by side, exchanged: the second goes down by the first's length, the first up by the second's
-unfoldable pub moved-down : Piece → Piece → Piece
-moved-down a b = move-piece 0 (to-of a - from-of a) 0 (length (store a)) b
+-- ---- "only byte places and operand store places move": two events alike but for byte places, which go up by `up` and down by `down`, and operand
+-- places, which go up by `plus` and down by `minus`. A record without payload (kind 0) has only the place of its operands; an array (1 or 2) has its
+-- elements in the operand store too; a blob (3) is at a byte
+pub data Shifted (up down plus minus : ℕ) : Event → Event → Type 0 where
+  s-enter : (b w at at' n : ℕ) → at' + down ≡ at + up → Shifted up down plus minus (enter b w at n) (enter b w at' n)
+  s-skip : (b w at at' n : ℕ) → at' + down ≡ at + up → Shifted up down plus minus (skip b w at n) (skip b w at' n)
+  s-leave : (b : ℕ) → Shifted up down plus minus (leave b) (leave b)
+  s-plain : (b code first first' count : ℕ) → first' + minus ≡ first + plus
+      → Shifted up down plus minus (record-event b code first count 0 0 0) (record-event b code first' count 0 0 0)
+  s-list : (b code first first' count kind at at' n : ℕ) → 0 < kind → kind < 3 → first' + minus ≡ first + plus → at' + minus ≡ at + plus
+      → Shifted up down plus minus (record-event b code first count kind at n) (record-event b code first' count kind at' n)
+  s-blob : (b code first first' count at at' n : ℕ) → first' + minus ≡ first + plus → at' + down ≡ at + up
+      → Shifted up down plus minus (record-event b code first count 3 at n) (record-event b code first' count 3 at' n)
 
-unfoldable pub moved-up : Piece → Piece → Piece
-moved-up a b = move-piece (to-of b - to-of a) 0 (length (store b)) 0 a
+-- two groups, event by event
+pub data Each (R : Event → Event → Type 0) : List Event → List Event → Type 0 where
+  none : Each R [] []
+  more : {x y : Event} {xs ys : List Event} → R x y → Each R xs ys → Each R (x ∷ xs) (y ∷ ys)
 
--- in a list of bytes in which the stream begins at the byte `base`
-unfoldable pub exchanged : Piece → Piece → ℕ → List ℕ → List ℕ
-exchanged a b base l = exchange (base + from-of a / 8) (base + to-of a / 8) (base + to-of b / 8) l
+-- ---- the input bs, the skip list, the sizes n and m of the event store and of the operand store; the header h; the blocks a and b at the spot t
+pub record Neighbours (bs skips : List ℕ) (n m : ℕ) (h : Signature) (t : Spot) (a b : Piece) : Type 0 where
+  -- "an accepted input with two blocks that the walk meets, one directly behind the other in the same parent"
+  pub meets : walk bs skips n m ≡ accepted h (plug t a b)
+  pub first-block : IsBlock a
+  pub second-block : IsBlock b
+  -- "the first starting on a 32-bit boundary of the stream"
+  pub aligned : from-of a % 32 ≡ 0
+  -- "neither touching a wrapper's 20 bytes": the first's first byte is behind them
+  pub clear : word bs 0 ≡ wrapper-magic → 20 ≤ base-of bs + from-of a / 8
+  -- "no BLOCKINFO read as either or inside either"
+  pub first-quiet : Quiet a
+  pub second-quiet : Quiet b
 
--- in the stream itself
-abbrev swapped : Piece → Piece → List ℕ → List ℕ
-swapped a b s = exchange (from-of a / 8) (to-of a / 8) (to-of b / 8) s
+pub record Exchanged (bs skips : List ℕ) (n m : ℕ) (h : Signature) (t : Spot) (a b : Piece) : Type 0 where
+  -- "with the same skip list and store sizes, the new input is accepted"; its header numbers are the old ones
+  pub new : Pieces
+  pub accepts : walk (exchanged bs a b) skips n m ≡ accepted h new
+  -- "the two groups of events change places, and every other event is the same"
+  pub first : List Event
+  pub second : List Event
+  pub was : all-events (plug t a b) ≡ front t ++ events a ++ events b ++ back t
+  pub is : all-events new ≡ front t ++ second ++ first ++ back t
+  -- "Within a group only byte places and operand store places move": the first's go up by the second's bytes and operands, the second's go down by
+  -- the first's
+  pub first-moves : Each (Shifted (bytes-of b) 0 (length (store b)) 0) (events a) first
+  pub second-moves : Each (Shifted 0 (bytes-of a) 0 (length (store a))) (events b) second
+  -- "operand and blob contents stay": they change places with their groups
+  pub store-was : all-store (plug t a b) ≡ front-store t ++ store a ++ store b ++ back-store t
+  pub store-is : all-store new ≡ front-store t ++ store b ++ store a ++ back-store t
+  pub blobs-was : all-blobs (plug t a b) ≡ front-blobs t ++ blobs a ++ blobs b ++ back-blobs t
+  pub blobs-is : all-blobs new ≡ front-blobs t ++ blobs b ++ blobs a ++ back-blobs t
 
--- no place of the two falls below zero
-unfoldable pub PairFine : Piece → Piece → Type 0
-PairFine a b = Fine 0 (to-of a - from-of a) 0 (length (store a)) b × Fine (to-of b - to-of a) 0 (length (store b)) 0 a
-
--- ---- the streams
-traded : (s : List ℕ) (i j k : ℕ) → i % 32 ≡ 0 → j % 32 ≡ 0 → k % 32 ≡ 0 → i < j → j < k → k ≤ 8 * length s
-    → Traded s (exchange (i / 8) (j / 8) (k / 8) s) i j k
-traded s i j k i32 j32 k32 ij jk kl =
-    let ij₈ : i / 8 ≤ j / 8 = omega arith in
-    let jk₈ : j / 8 ≤ k / 8 = omega arith in
-    let kl₈ : k / 8 ≤ length s = omega arith in
-    let x : List ℕ = exchange (i / 8) (j / 8) (k / 8) s in
-    let len : length x ≡ length s = length-exchange (i / 8) (j / 8) (k / 8) s ij₈ jk₈ kl₈ in
-    record {
-      low = still 0 i (λ n h g. bits-low (i / 8) (j / 8) (k / 8) s ij₈ jk₈ kl₈ n (omega arith)) len;
-      ups = record {
-        agree = λ n h g. bits-up (i / 8) (j / 8) (k / 8) s ij₈ jk₈ kl₈ n (omega arith) (omega arith) ∙ ap (bit x) (omega arith);
-        low = omega arith;
-        u32 = omega arith;
-        d32 = refl;
-        lengths = len;
-      };
-      downs = record {
-        agree = λ n h g. bits-down (i / 8) (j / 8) (k / 8) s ij₈ jk₈ kl₈ n (omega arith) (omega arith) ∙ ap (bit x) (omega arith);
-        low = omega arith;
-        u32 = refl;
-        d32 = omega arith;
-        lengths = len;
-      };
-      high = λ q. still k q (λ n h g. bits-high (i / 8) (j / 8) (k / 8) s ij₈ jk₈ kl₈ n (omega arith)) len;
-      i-j = ij;
-      j-k = jk;
-    }
-
--- ---- the header stays
-least : (c : Bool) (n : ℕ) → 4 ≤ (if c then n + 4 else 4)
-unfolding if_then_else_
-least true n = omega arith
-least false n = omega arith
-
-base-least : (bs : List ℕ) → 4 ≤ base-of bs
-unfolding base-of
-base-least bs = least (eqb (word bs 0) wrapper-magic) (word bs 8)
-
-wrapped-base : (bs : List ℕ) → eqb (word bs 0) wrapper-magic ≡ true → base-of bs ≡ word bs 8 + 4
-unfolding base-of
-wrapped-base bs z = if-true _ _ z
-
-module _ (bs : List ℕ) (i j k : ℕ) (ij : i ≤ j) (jk : j ≤ k) (kl : base-of bs + k ≤ length bs) where
-  abbrev new : List ℕ
-  new = exchange (base-of bs + i) (base-of bs + j) (base-of bs + k) bs
-
-  new-byte : (n : ℕ) → n < base-of bs + i → getD new n 0 ≡ getD bs n 0
-  new-byte n h = exchange-low (base-of bs + i) (base-of bs + j) (base-of bs + k) bs (omega arith) (omega arith) kl n h
-
-  new-word : (n : ℕ) → n + 3 < base-of bs + i → word new n ≡ word bs n
-  unfolding word
-  new-word n h =
-      ap₂ (λ x y. x + 16777216 * y)
-      (ap₂ (λ x y. x + 65536 * y) (ap₂ (λ x y. x + 256 * y) (new-byte n (omega arith)) (new-byte (n + 1) (omega arith)))
-      (new-byte (n + 2) (omega arith)))
-      (new-byte (n + 3) (omega arith))
-
-  exchange-header : (eqb (word bs 0) wrapper-magic ≡ true → 20 ≤ base-of bs + i) → SameHeader bs new
-  exchange-header clear = record {
-    same-length = length-exchange (base-of bs + i) (base-of bs + j) (base-of bs + k) bs (omega arith) (omega arith) kl;
-    same-magic = new-word 0 (omega (arith, base-least bs));
-    same-wrapper = λ z.
-        let b : base-of bs ≡ word bs 8 + 4 = wrapped-base bs z in
-        let c : 20 ≤ base-of bs + i = clear z in (
-          new-word 4 (omega arith),
-          new-word 8 (omega arith),
-          new-word 12 (omega arith),
-          new-word 16 (omega arith),
-          new-word (word bs 8) (omega arith),
-        );
-  }
-
-module _ (skips : Pass) (blind : Blind skips) (n m : ℕ) (t : Spot) (a b : Piece) (ia : IsBlock a) (ib : IsBlock b) (qa : Quiet a) (qb : Quiet b)
-    (a32 : from-of a % 32 ≡ 0) where
-  top-bounds : (s : List ℕ) (q : ℕ) → top-items skips n m s (length s) 0 ≡ got (plug t a b) q → Bounds 0 q a b × (to-of b ≤ 8 * length s)
-  unfolding top-items turns
-  top-bounds s q z =
-      let v = bounds skips s t a b ia ib max-open (suc (8 * length s)) top-level (start n m) (length s) 0 q z in
-      let w = items-facts skips s max-open top-level (start n m) (length s) 0 (suc (8 * length s)) q (plug t a b) z in
-      (v, omega (arith, w .2 (omega arith), limit-le s (length s)))
-
-  stream-swap : (s : List ℕ) (q : ℕ) → top-items skips n m s (length s) 0 ≡ got (plug t a b) q
-      → (top-items skips n m (swapped a b s) (length (swapped a b s)) 0 ≡ got (plug t (moved-down a b) (moved-up a b)) q) × PairFine a b
-  unfolding top-items turns moved-down moved-up PairFine
-  stream-swap s q z =
-      let (v, l) = top-bounds s q z in
-      let x : List ℕ = swapped a b s in
-      let tr = traded s (from-of a) (to-of a) (to-of b) a32 (v .b-middle) (v .b-end) (v .b-first) (omega arith) l in
-      let w = swap-items a b ia ib qa qb (from-of a) (to-of a) (to-of b) skips blind s x tr refl refl refl t max-open
-      (suc (8 * length s)) top-level (start n m) (length s) 0 q z in (
-        subst (λ y. many skips max-open (suc (8 * y)) top-level (start n m) x y 0 ≡ got (plug t (moved-down a b) (moved-up a b)) q)
-            (sym (tr .low .lengths)) (w .0),
-        w .1,
-      )
-
-  -- ---- the whole call: the exchanged input is accepted
-  pub swapped-walk : (bs : List ℕ) (h : Signature) → walk-by bs skips n m ≡ accepted h (plug t a b)
-      → (eqb (word bs 0) wrapper-magic ≡ true → 20 ≤ base-of bs + from-of a / 8)
-      → (walk-by (exchanged a b (base-of bs) bs) skips n m ≡ accepted h (plug t (moved-down a b) (moved-up a b))) × PairFine a b
-  unfolding exchanged
-  swapped-walk bs h z clear =
-      let (s, q, e₁, z₂, z₃) = walk-apart bs skips n m h (plug t a b) z in
-      let (v, l) = top-bounds s q z₃ in
-      let w = stream-swap s q z₃ in
-      let y = lies bs s h z₂ in
-      let ij : from-of a / 8 ≤ to-of a / 8 = omega arith in
-      let jk : to-of a / 8 ≤ to-of b / 8 = omega arith in
-      let len : length s ≡ end-of bs - base-of bs = ap length (y .stream-is) ∙ length-slice (base-of bs) (end-of bs) bs (y .end-length) in
-      let kl : base-of bs + to-of b / 8 ≤ end-of bs = omega arith in
-      let same = exchange-header bs (from-of a / 8) (to-of a / 8) (to-of b / 8) ij jk (omega arith) clear in
-      let e₂ = same-signature bs (exchanged a b (base-of bs) bs) same s h z₂ in
-      let e₃ = part-exchange (from-of a / 8) (to-of a / 8) (to-of b / 8) (base-of bs) (end-of bs) bs ij jk kl (y .end-length)
-      ∙ ap (swapped a b) (sym (y .stream-is)) in (
-        walk-make (exchanged a b (base-of bs) bs) skips n m h (plug t (moved-down a b) (moved-up a b)) (swapped a b s) q
-            (ap (λ x. ltb max-input x) (same .same-length) ∙ e₁) (e₂ ∙ ap (opened h) e₃) (w .0),
-        w .1,
-      )
+-- for every input, skip list, store size and two such blocks. The proof is `demand-3` in proofs/Demand3.antt
+abbrev pub Demand-3 : Type 0
+Demand-3 = (bs skips : List ℕ) (n m : ℕ) (h : Signature) (t : Spot) (a b : Piece) → Neighbours bs skips n m h t a b → Exchanged bs skips n m h t a b

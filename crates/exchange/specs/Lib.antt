@@ -1,17 +1,3 @@
-pub mod Tests
-pub mod Shift
-pub mod Law
-pub mod Readers
-pub mod Moves
 pub mod Spot
-pub mod Apart
-pub mod Keep
-pub mod Fuel
-pub mod Swap
-pub mod Exchange
-pub mod Call
 pub mod Input
 pub mod Demand3
-pub mod Groups
-pub mod Stores
-pub mod Example

@@ -1,21 +1,23 @@
--- Where two neighbouring blocks stand in what a walk met. Assumes nothing.
-use Prim.Native.Nat.{ℕ, _+_, _*_}
-use Rattle.walk.specs.Piece.{Head, head, Piece, the-record, definition, blockinfo, skipped, block, Pieces, done, _then_}
+-- Demand 3: "two blocks that the walk meets, one directly behind the other in the same parent". What the walk met is a tree of pieces
+-- (crates/walk/specs/Piece.antt); here are the place of the two in it, at any depth, and what stands around them. Assumes nothing.
+use mathlib.Core.List.{List, [], _∷_, _++_}
+use Prim.Native.Nat.{ℕ, _+_, _-_, _*_, _/_}
+use Rattle.walk.specs.Piece.{Head, head, Piece, the-record, definition, blockinfo, skipped, block, Pieces, done, _then_, Event, entering, leaving, events, all-events, store, all-store, blobs, all-blobs}
 
--- the pieces behind the two; a piece before them; a block around them, with the pieces behind it
+-- where two pieces stand: here, with the pieces behind them; later, behind a piece; or inside a block, with the bit where it began, its head, and the
+-- pieces behind it
 pub data Spot : Type 0 where
   here : Pieces → Spot
   later : Piece → Spot → Spot
   inside : ℕ → Head → Spot → Pieces → Spot
 
--- what was met, with a and, directly behind it, b at the spot
+-- what was met, with a and, directly behind it in the same parent, b at the spot
 unfoldable pub plug : Spot → Piece → Piece → Pieces
 plug (here xs) a b = _then_ a (_then_ b xs)
 plug (later x t) a b = _then_ x (plug t a b)
 plug (inside from h t xs) a b = _then_ (block from h (plug t a b)) xs
 
--- ---- blocks
--- one that was entered, or one that was skipped; not BLOCKINFO
+-- ---- a block: one that was entered, or one that was skipped
 unfoldable pub IsBlock : Piece → Type 0
 IsBlock (the-record from b first r) = ⊥
 IsBlock (definition a) = ⊥
@@ -23,7 +25,7 @@ IsBlock (blockinfo from h sh) = ⊥
 IsBlock (skipped from h) = Unit {0}
 IsBlock (block from h inner) = Unit {0}
 
--- neither BLOCKINFO itself nor with one inside it
+-- "no BLOCKINFO read as either or inside either"
 unfoldable mutual
   pub Quiet : Piece → Type 0
   Quiet (the-record from b first r) = Unit {0}
@@ -36,7 +38,7 @@ unfoldable mutual
   Quiets (done end) = Unit {0}
   Quiets (_then_ x xs) = Quiet x × Quiets xs
 
--- the bit where a block began, and the bit where its body ends
+-- the bits of the stream where a block begins and where its body ends; what they are of a piece that is no block doesn't matter
 unfoldable pub from-of : Piece → ℕ
 from-of (the-record from b first r) = from
 from-of (definition a) = 0
@@ -53,3 +55,38 @@ to-of (definition a) = 0
 to-of (blockinfo from h sh) = head-end h
 to-of (skipped from h) = head-end h
 to-of (block from h inner) = head-end h
+
+-- how many bytes it takes
+unfoldable pub bytes-of : Piece → ℕ
+bytes-of x = (to-of x - from-of x) / 8
+
+-- ---- what stands before the two and behind them: events, operands in the order of the store, contents of blobs. The two have no part in it
+unfoldable pub front : Spot → List Event
+front (here xs) = []
+front (later x t) = events x ++ front t
+front (inside from h t xs) = entering h ∷ front t
+
+unfoldable pub back : Spot → List Event
+back (here xs) = all-events xs
+back (later x t) = back t
+back (inside from h t xs) = back t ++ leaving h ∷ [] ++ all-events xs
+
+unfoldable pub front-store : Spot → List ℕ
+front-store (here xs) = []
+front-store (later x t) = store x ++ front-store t
+front-store (inside from h t xs) = front-store t
+
+unfoldable pub back-store : Spot → List ℕ
+back-store (here xs) = all-store xs
+back-store (later x t) = back-store t
+back-store (inside from h t xs) = back-store t ++ all-store xs
+
+unfoldable pub front-blobs : Spot → List (List ℕ)
+front-blobs (here xs) = []
+front-blobs (later x t) = blobs x ++ front-blobs t
+front-blobs (inside from h t xs) = front-blobs t
+
+unfoldable pub back-blobs : Spot → List (List ℕ)
+back-blobs (here xs) = all-blobs xs
+back-blobs (later x t) = back-blobs t
+back-blobs (inside from h t xs) = back-blobs t ++ all-blobs xs

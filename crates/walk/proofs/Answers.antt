@@ -48,7 +48,7 @@ unfolding bytes
 byte-runs n {s} {e} {p} = record { has = bytes-has _ s e p n refl }
 
 -- a scalar part that fits, and the whole record then
-unfoldable PartFits : ℕ → Part → Type 0
+unfoldable pub PartFits : ℕ → Part → Type 0
 PartFits left (whole r) = length (record-list r) ≤ left
 PartFits left (listing code vs k n) = length vs ≤ left
 PartFits left (blobbing code vs n) = length vs ≤ left
@@ -147,7 +147,7 @@ at-ends : {s : List ℕ} {e p : ℕ} → Answers at-end s e p (λ b q. q ≡ p) 
 unfolding at-end Has
 at-ends = record { has = (omega arith, λ h. h, refl) }
 
-top-ends : (top : Bool) (st : State) → top ≡ true → tail top ≤ st .room
+pub top-ends : (top : Bool) (st : State) → top ≡ true → tail top ≤ st .room
 unfolding tail
 top-ends true st i = omega arith
 top-ends false st i = absurd (let z : _≡_ {A = ℕ} 0 1 = cc in omega arith)

@@ -1,3 +1,4 @@
 pub mod Blobs
 pub mod Answers
 pub mod Whole
+pub mod Turns

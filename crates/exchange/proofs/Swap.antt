@@ -13,12 +13,13 @@ use Rattle.bits.specs.Reader.{Answer, got}
 use Rattle.bits.specs.Bits.{limit, ends-at}
 use Rattle.walk.specs.Piece.{Head, head, Piece, the-record, definition, blockinfo, skipped, block, Pieces, done, _then_, count, counts, store, all-store, added, all-added, own, State, after, entered}
 use Rattle.walk.specs.Item.{Context, headed, opening, Pass, nested}
-use Rattle.exchange.specs.Shift.{Takes, Began, size, Headed, move-head, Fitting, Asks, Fine, move-piece, move-opening, store-move, added-move, own-move, count-move, Like}
-use Rattle.exchange.specs.Law.{Window, Ends, Passes, taken, inner-limit}
-use Rattle.exchange.specs.Moves.{headed-le, opening-moves, body-moves, nested-moves}
+use Rattle.walk.proofs.Answers.{size-of, Takes}
 use Rattle.exchange.specs.Spot.{Spot, here, later, inside, plug, IsBlock, Quiet, Quiets, from-of, head-end, to-of}
-use Rattle.exchange.specs.Apart.{one, many, items-apart, items-make, items-none, item-open, item-make, body-apart, body-make, ctx, nest, nested-apart, nested-make}
-use Rattle.exchange.specs.Keep.{same-limit, still-item, still-items, still-head, fitting-self, item-facts, items-facts, opening-facts, body-facts}
+use Rattle.exchange.proofs.Shift.{Began, Headed, move-head, Fitting, Asks, Fine, move-piece, move-opening, store-move, added-move, own-move, count-move, Like}
+use Rattle.exchange.proofs.Law.{Window, Ends, Passes, taken, inner-limit}
+use Rattle.exchange.proofs.Moves.{headed-le, opening-moves, body-moves, nested-moves}
+use Rattle.exchange.proofs.Apart.{one, many, items-apart, items-make, items-none, item-open, item-make, body-apart, body-make, ctx, nest, nested-apart, nested-make}
+use Rattle.exchange.proofs.Keep.{same-limit, still-item, still-items, still-head, fitting-self, item-facts, items-facts, opening-facts, body-facts}
 
 -- ---- a block at p .. q
 pub began-block : (x : Piece) (p q : ℕ) → IsBlock x → Began x p q → (from-of x ≡ p) × (to-of x ≡ q) × (q % 32 ≡ 0)
@@ -57,11 +58,13 @@ mutual
 abbrev pub Blind : Pass → Type 0
 Blind skips = (from from' b : ℕ) → skips from b ≡ skips from' b
 
-fitting-moved : (up down : ℕ) (h : Head) (lim r q : ℕ) → down ≤ r → up % 32 ≡ 0 → down % 32 ≡ 0 → Headed lim h r → q ≡ r + 8 * size h
+-- its body fits
+fitting-moved : (up down : ℕ) (h : Head) (lim r q : ℕ) → down ≤ r → up % 32 ≡ 0 → down % 32 ≡ 0 → Headed lim h r → q ≡ r + 8 * size-of h
     → (lim' : ℕ) → q + up ≤ lim' + down → Fitting up down lim' h
-unfolding Headed Fitting size
+unfolding Headed Fitting size-of
 fitting-moved up down (head b w at n) lim r q l u v z y lim' f = omega arith
 
+-- both runs are before their ends
 before-both : (s s' : List ℕ) (e p e' p' : ℕ) → p < limit s e → p' < limit s' e' → ends-at s' e' p' ≡ ends-at s e p
 unfolding ends-at
 before-both s s' e p e' p' h g = lt-leb _ _ g ∙ sym (lt-leb _ _ h)
@@ -136,7 +139,7 @@ block-apart skips s d c st e p q from b w at n inner g =
       behind = omega (arith, o .0, o .2);
       ending = z₃;
       holds = z₄;
-      within-end = omega (arith, f .2 (omega arith));
+      within-end = omega (arith, f .1 (omega arith));
     }
 
 -- ---- where the two blocks at a spot lie, in items read from p to q
@@ -207,6 +210,7 @@ pub record Traded (s s' : List ℕ) (i j k : ℕ) : Type 0 where
   pub i-j : i < j
   pub j-k : j < k
 
+-- two states are the same by their parts
 state-path : {x y : State} → x .shareds ≡ y .shareds → x .mine ≡ y .mine → x .locals ≡ y .locals → x .room ≡ y .room → x .fill ≡ y .fill
     → x .left ≡ y .left → x ≡ y
 state-path a b c d e f = λ i. record { shareds = a i; mine = b i; locals = c i; room = d i; fill = e i; left = f i }
@@ -215,6 +219,7 @@ state-path a b c d e f = λ i. record { shareds = a i; mine = b i; locals = c i;
 at-places : {R A : Type 0} {a : A} {p p' q q' : ℕ} (m : ℕ → ℕ → Answer R A) (e : ℕ) → m e p ≡ got a q → p ≡ p' → q ≡ q' → m e p' ≡ got a q'
 at-places {a} m e z f g = ap (m e) (sym f) ∙ z ∙ ap (got a) g
 
+-- nothing appended
 append-none : {A : Type 0} (xs ys : List A) → ys ≡ [] → xs ++ ys ≡ xs
 append-none xs ys z = ap (λ y. xs ++ y) z ∙ append-nil xs
 

@@ -13,9 +13,9 @@ use Rattle.bitcode.specs.declared.Signature.{Signature}
 use Rattle.bitcode.specs.Header.{Opened, unsigned, opened, signature}
 use Rattle.walk.specs.Piece.{Pieces}
 use Rattle.walk.specs.Item.{Pass}
-use Rattle.exchange.specs.Tests.{if-false}
 use Rattle.walk.specs.Walk.{top-items, Outcome, denied, accepted, outcome, walk-stream, walk-by}
 
+-- ---- apart
 outcome-apart : (h h' : Signature) (xs : Pieces) (x : Answer Refusal Pieces) → outcome h' x ≡ accepted h xs → (q : ℕ) × (h' ≡ h)
     × (x ≡ got xs q)
 unfolding outcome
@@ -45,8 +45,9 @@ walk-apart bs skips n m h xs z =
     let (s, q, z₂, z₃) = stream-apart skips n m h xs (signature bs) z₁ in
     (s, q, e, z₂, z₃)
 
+-- ---- together
 pub walk-make : (bs : List ℕ) (skips : Pass) (n m : ℕ) (h : Signature) (xs : Pieces) (s : List ℕ) (q : ℕ)
     → ltb max-input (length bs) ≡ false
     → signature bs ≡ opened h s → top-items skips n m s (length s) 0 ≡ got xs q → walk-by bs skips n m ≡ accepted h xs
-unfolding walk-by walk-stream outcome
-walk-make bs skips n m h xs s q e₁ e₂ e₃ = if-false _ _ e₁ ∙ ap (λ o. walk-stream o skips n m) e₂ ∙ ap (λ x. outcome h x) e₃
+unfolding walk-by walk-stream outcome if_then_else_
+walk-make bs skips n m h xs s q e₁ e₂ e₃ = rw e₁ (ap (λ o. walk-stream o skips n m) e₂ ∙ ap (λ x. outcome h x) e₃)

@@ -13,10 +13,12 @@ use Rattle.bits.specs.Reader.{Reader, _>>=_, give, stop, placed}
 use Rattle.bits.specs.Bits.{limit, ends-at}
 use Rattle.walk.specs.Piece.{Head, head, Piece, the-record, definition, blockinfo, skipped, block, Pieces, done, _then_, count, counts, store, all-store, State, after, entered}
 use Rattle.walk.specs.Item.{Context, Begun, closing, heads, defines, records, heading, used, begun, begin, Opening, ended, defined, recorded, headed, event-room, leave-room, fits, finish, at-end, opening, Pass, Sub, body-of, complete, item, going-on, items, nested}
-use Rattle.exchange.specs.Shift.{mv, tail, tail-top, PartTakes, Takes, Inner, Holds, Wants, Began, size, Stands, Headed, move-record, move-part, move-head, move-begun, PartFine, HeadFine, Fitting, Front, FrontAsks, Asks, Open, Fine, Fines, Made, move-piece, move-pieces, move-opening, move-option, store-move, count-move, Like, after-like, entered-like}
-use Rattle.exchange.specs.Law.{Window, free, same, Ends, Exact, Passes, Runs, Tells, exact-ends, recast, on, so, through, giving, giving-as, gives, stops, requires, roomy, rooms, branch, branch-on, branch-by, here-moves, places, turned, withins}
-use Rattle.exchange.specs.Readers.{reads-at, aligns-at, aligns, vbrs, define-moves, numbers-at, lookup-moves, scalar-part-moves, unabbreviated-moves, rest-moves, info-moves}
+use Rattle.walk.proofs.Answers.{PartFits, tail, top-ends, size-of, Takes, Inner, Holds}
+use Rattle.exchange.proofs.Shift.{mv, Wants, Began, Stands, Headed, move-record, move-part, move-head, move-begun, PartFine, HeadFine, Fitting, Front, FrontAsks, Asks, Open, Fine, Fines, Made, move-piece, move-pieces, move-opening, move-option, store-move, count-move, Like, after-like, entered-like}
+use Rattle.exchange.proofs.Law.{Window, free, same, Ends, Exact, Passes, Runs, Tells, exact-ends, recast, on, so, through, giving, giving-as, gives, stops, requires, roomy, rooms, branch, branch-on, branch-by, here-moves, places, turned, withins}
+use Rattle.exchange.proofs.Readers.{reads-at, aligns-at, aligns, vbrs, define-moves, numbers-at, lookup-moves, scalar-part-moves, unabbreviated-moves, rest-moves, info-moves}
 
+-- two tests with the same outcome
 leb-same : (a b c d : ℕ) → (a ≤ b → c ≤ d) → (c ≤ d → a ≤ b) → (x y : Bool) → leb a b ≡ x → leb c d ≡ y → leb c d ≡ leb a b
 leb-same a b c d f g true true p q = q ∙ sym p
 leb-same a b c d f g true false p q = absurd (omega (arith, f (leb-true a b p), leb-false c d q))
@@ -27,6 +29,7 @@ pub headed-le : (h : Head) (lim r : ℕ) → Headed lim h r → r ≤ lim
 unfolding Headed
 headed-le (head b w at n) lim r z = omega arith
 
+-- a place that is not at the end is before it
 before-end : (s : List ℕ) (e p : ℕ) → ends-at s e p ≡ false → p < limit s e
 unfolding ends-at
 before-end s e p h = leb-false (limit s e) p h
@@ -79,7 +82,7 @@ module _ {s s' : List ℕ} {lo hi up down : ℕ} {win : Window s s' lo hi up dow
 
   module _ {og oo : ℕ} where
     used-moves : {e e' p : ℕ} → Ends win e e' → lo ≤ p → (c : Context) {st st' : State} → Like og oo st st' → (n : ℕ)
-        → Runs win e e' p (Unit {0}) (λ x _. PartTakes (st .left) x × PartFine up down x) (PartTakes (st' .left)) (move-part up down)
+        → Runs win e e' p (Unit {0}) (λ x _. PartFits (st .left) x × PartFine up down x) (PartFits (st' .left)) (move-part up down)
         (used c st n) (used c st' n)
     unfolding used _>>=_
     used-moves t h c {st} {st'} l n =
@@ -131,7 +134,7 @@ module _ {s s' : List ℕ} {lo hi up down : ℕ} {win : Window s s' lo hi up dow
     opening-moves {e} {e'} {p} t h x c {st} {st'} l = so _ (here-moves t) (λ from q g z.
         let w : from ≡ p = omega arith in
         so _ (at-end-moves t (subst (λ y. ends-at s' e' (mv up down y) ≡ ends-at s e y) (sym (z .1)) x)) (λ out q₁ g₁ z₁.
-        branch-on t _ _ _ _ _ (λ _. so _ (requires t _ _ _) (λ _ q₂ g₂ z₂. giving ended (tail-top _ _ (z₂ .0)) (λ v. tt)))
+        branch-on t _ _ _ _ _ (λ _. so _ (requires t _ _ _) (λ _ q₂ g₂ z₂. giving ended (top-ends _ st (z₂ .0)) (λ v. tt)))
         (λ y. on _ (places _ _ (begin-moves t (omega arith) c l)) (λ b q₂ g₂ z₂.
         let u : from < limit s e = before-end s e from (ap (ends-at s e) (z .0) ∙ sym (z₁ .0) ∙ y) in
         recast (finish-moves t (omega arith) c from (omega arith) l b (omega (arith, z₂ .0)) u (z₂ .1))
@@ -142,7 +145,7 @@ module _ {s s' : List ℕ} {lo hi up down : ℕ} (win : Window s s' lo hi up dow
   pub record Subs (sub sub' : Sub) : Type 0 where
     pub subs : (e e' p : ℕ) → lo ≤ p → (from : ℕ) (h : Head) (st st' : State) → Like og oo st st' → Headed (limit s e) h p
         → Fitting up down (limit s' e') h
-        → Runs win e e' p (Unit {0}) (λ xs q. Inner st xs × (q ≡ p + 8 * size h) × Fines up down og oo xs) (Inner st')
+        → Runs win e e' p (Unit {0}) (λ xs q. Inner st xs × (q ≡ p + 8 * size-of h) × Fines up down og oo xs) (Inner st')
         (move-pieces up down og oo) (sub from h st) (sub' (mv up down from) (move-head up down h) st')
 
 module _ {s s' : List ℕ} {lo hi up down : ℕ} {win : Window s s' lo hi up down} {og oo : ℕ} where
@@ -150,9 +153,9 @@ module _ {s s' : List ℕ} {lo hi up down : ℕ} {win : Window s s' lo hi up dow
       → {e e' p : ℕ} → Ends win e e' → lo ≤ p
       → (from : ℕ) (h : Head) {st st' : State} → Like og oo st st' → Headed (limit s e) h p → Fitting up down (limit s' e') h
       → lo ≤ from → from < p
-      → Runs win e e' p (Unit {0}) (λ x q. Takes st x × Began x from q × (q ≡ p + 8 * size h) × Fine up down og oo x) (Takes st')
+      → Runs win e e' p (Unit {0}) (λ x q. Takes st x × Began x from q × (q ≡ p + 8 * size-of h) × Fine up down og oo x) (Takes st')
       (move-piece up down og oo) (body-of sub skips from st h) (body-of sub' skips' (mv up down from) st' (move-head up down h))
-  unfolding body-of event-room move-head Headed Fitting Fine HeadFine _>>=_ give move-piece Takes Began size Inner count store
+  unfolding body-of event-room move-head Headed Fitting Fine HeadFine _>>=_ give move-piece Takes Began size-of Inner count store
   body-moves r {skips} {skips'} ps {e} {e'} {p} t h from (head b w at n) {st} {st'} l (z₀, z₁, z₂, z₃) f g₀ g =
       branch t _ _ _ _ _
       (rw (l .l-shareds) (
@@ -219,7 +222,7 @@ module _ {s s' : List ℕ} {lo hi up down : ℕ} {win : Window s s' lo hi up dow
       (λ y. items-move r ps c k t (after-like up down y l) (omega arith))))
 
   pub nested-moves : (d : ℕ) {skips skips' : Pass} → Passes win skips skips' → Subs win og oo (nested d skips) (nested d skips')
-  unfolding nested event-room Headed Fitting stop _>>=_ move-head Inner Holds size entered tail
+  unfolding nested event-room Headed Fitting stop _>>=_ move-head Inner Holds size-of entered tail
   nested-moves zero ps = record { subs = λ e e' p h from x. elim x [ head b w at n ↦ λ st st' l z f. stops _ ] }
   nested-moves (suc d) ps = record {
     subs = λ e e' p h from x. elim x [

@@ -1,4 +1,4 @@
--- Two neighbouring parts of a list exchanged: i..j and j..k. Assumes nothing.
+-- The laws of `exchange`: what stands where, in bytes and in bits; and a part of the exchanged input is the part, exchanged. Assumes nothing.
 use mathlib.Core.Path.{_≡_, refl, sym, ap, ap₂, _∙_}
 use mathlib.Core.Bool.{Bool, true, false}
 use mathlib.Core.List.{List, _++_}
@@ -9,9 +9,7 @@ use lib.Seq.{length-take-le, length-slice, slice, getD-append-add, getD-take, ge
 use lib.Dec.{ltb}
 use borrow.Author.Tests.{ltb-true, ltb-false}
 use Rattle.bits.specs.Bits.{bit}
-
-unfoldable pub exchange : ℕ → ℕ → ℕ → List ℕ → List ℕ
-exchange i j k l = take i l ++ (slice j k l ++ (slice i j l ++ drop k l))
+use Rattle.exchange.specs.Input.{exchange}
 
 -- a number is below another or not
 either-of : {C : Type 0} (n m : ℕ) → (n < m → C) → (m ≤ n → C) → (b : Bool) → ltb n m ≡ b → C
@@ -21,6 +19,7 @@ either-of n m f g false h = g (ltb-false n m h)
 pub either : {C : Type 0} (n m : ℕ) → (n < m → C) → (m ≤ n → C) → C
 either n m f g = either-of n m f g (ltb n m) refl
 
+-- where a byte of the exchanged input lies: before the two, in the second block, in the first, or behind them
 pub regions : {C : Type 0} (i j k n : ℕ) → i ≤ j → j ≤ k → (n < i → C) → (i ≤ n → n < i + (k - j) → C) → (i + (k - j) ≤ n → n < k → C)
     → (k ≤ n → C) → C
 regions i j k n ij jk f₁ f₂ f₃ f₄ = either n i f₁ (λ a. either n (i + (k - j)) (f₂ a) (λ b. either n k (f₃ b) f₄))
@@ -31,6 +30,7 @@ behind-first xs ys n m e h =
     ap (λ x. getD (xs ++ ys) x 0) (let z : n ≡ length xs + (n - m) = omega arith in z) ∙ getD-append-add xs ys (n - m) 0
 
 module _ (i j k : ℕ) (l : List ℕ) (ij : i ≤ j) (jk : j ≤ k) (kl : k ≤ length l) where
+  -- how long the parts are
   li : length (take i l) ≡ i
   li = length-take-le i l (omega arith)
 
@@ -44,6 +44,7 @@ module _ (i j k : ℕ) (l : List ℕ) (ij : i ≤ j) (jk : j ≤ k) (kl : k ≤ 
   unfolding exchange
   length-exchange = simp (length-append, li, lb, la, length-drop) (omega arith)
 
+  -- ---- what stands where: before the two, the second block, the first, behind them
   pub exchange-low : (n : ℕ) → n < i → getD (exchange i j k l) n 0 ≡ getD l n 0
   unfolding exchange
   exchange-low n h = List·getD-append (take i l) _ 0 n (omega (arith, li)) ∙ getD-take i l n 0 h

@@ -7,19 +7,19 @@ use mathlib.Core.Option.{Option, none as nothing, some}
 use Prim.Native.Nat.{ℕ, zero, suc, _+_, _-_, _*_, _/_, _%_, _≤_, _<_}
 use native.Mathlib.Omega.{arith}
 use lib.ListN.{length, length-append}
-use borrow.Author.Tests.{leb-true}
 use Rattle.terms.specs.Refusals.{No, no, Refusal, buffer-overflow}
 use Rattle.bits.specs.Reader.{Reader, Answer, got, refused, _>>=_, give, stop, if_then_else_, placed}
 use Rattle.bits.specs.Bits.{field, limit, field-at, reach, read, align, chunks, vbr}
+use Rattle.bits.proofs.Laws.{between}
 use Rattle.bitcode.specs.declared.ScalarOperand.{ScalarOperand}
 use Rattle.bitcode.specs.declared.ScalarOperand.the-variants.{Literal, Fixed, Vbr, Char6}
 use Rattle.bitcode.specs.Scalar.{value}
 use Rattle.abbrev.specs.Abbrev.{Payload, none, blob, array, Abbrev, abbreviation, Operand, scalar, is-array, is-blob, width, kind, operand, element, rest-of, operands, define, number-of, lookup}
 use Rattle.abbrev.specs.BlockInfo.{Shared, Hides, every, or-else, readable, chosen, info-definition, set-bid, letters, block-name, record-name, info-record, InfoItem, info-end, info-adds, info-now, info-numbered, info-item, info-on, info}
 use Rattle.walk.specs.Record.{blob-load, a-record, stored, values, repeated, octets, bytes-if, bytes, Part, whole, listing, blobbing, payload-part, scalar-part, unabbreviated, rest, load-list, record-list}
-use Rattle.exchange.specs.Tests.{and-true}
-use Rattle.exchange.specs.Shift.{mv, PartTakes, kind-small, move-load, move-record, move-part, LoadFine, RecordFine, PartFine}
-use Rattle.exchange.specs.Law.{Window, any, free, same, Ends, Moves, Easy, Runs, Tells, Keeps, recast, knows, easy, on, so, through, giving, giving-as, gives, stops, requires, rooms, bounded, branch, here-moves, places, turned}
+use Rattle.walk.proofs.Answers.{PartFits}
+use Rattle.exchange.proofs.Shift.{mv, kind-small, move-load, move-record, move-part, LoadFine, RecordFine, PartFine}
+use Rattle.exchange.proofs.Law.{Window, any, free, same, Ends, Moves, Easy, Runs, Tells, Keeps, recast, knows, easy, on, so, through, giving, giving-as, gives, stops, requires, rooms, bounded, branch, here-moves, places, turned}
 
 -- ---- what stands in the window
 module _ {s s' : List ℕ} {lo hi up down : ℕ} (win : Window s s' lo hi up down) where
@@ -61,7 +61,7 @@ module _ {s s' : List ℕ} {lo hi up down : ℕ} {win : Window s s' lo hi up dow
       → Tells win e e' p (λ _ r. (r ≡ p + n) × (p < r) × (r ≤ limit s e)) (read n)
   unfolding read _>>=_
   reads-at t h n = so _ (requires t _ _ _) (λ _ q g z.
-      knows (fields t (omega arith) n) (λ _ r _ w. omega (arith, leb-true 1 n (and-true _ _ (z .0) .0))))
+      knows (fields t (omega arith) n) (λ _ r _ w. omega (arith, between 1 n 64 (z .0))))
 
   pub reads : {e e' p : ℕ} → Ends win e e' → lo ≤ p → (n : ℕ) → Keeps win e e' p (read n)
   reads t h n = easy (reads-at t h n)
@@ -172,9 +172,9 @@ module _ {s s' : List ℕ} {lo hi up down : ℕ} {win : Window s s' lo hi up dow
 
   -- a scalar part: what it takes of the operand store
   payload-part-moves : {e e' p : ℕ} → Ends win e e' → lo ≤ p → (left left' code : ℕ) (vs : List ℕ) → length vs ≤ left → (l : Payload)
-      → Runs win e e' p (length vs ≤ left') (λ x _. PartTakes left x × PartFine up down x) (PartTakes left') (move-part up down)
+      → Runs win e e' p (length vs ≤ left') (λ x _. PartFits left x × PartFine up down x) (PartFits left') (move-part up down)
       (payload-part code vs l) (payload-part code vs l)
-  unfolding payload-part _>>=_ give move-part move-record move-load PartTakes PartFine RecordFine LoadFine record-list load-list
+  unfolding payload-part _>>=_ give move-part move-record move-load PartFits PartFine RecordFine LoadFine record-list load-list
   payload-part-moves t h left left' code vs z none =
       giving _ (omega (arith, length-append vs []), tt) (λ v. omega (arith, length-append vs []))
   payload-part-moves t h left left' code vs z (array k) = so _ (vbrs t h 6) (λ n q g _. giving _ (z, tt) (λ v. v))
@@ -182,7 +182,7 @@ module _ {s s' : List ℕ} {lo hi up down : ℕ} {win : Window s s' lo hi up dow
       so _ (vbrs t h 6) (λ n q g _. so _ (aligns t (omega arith)) (λ _ q₁ g₁ _. giving _ (z, tt) (λ v. v)))
 
   pub scalar-part-moves : {e e' p : ℕ} → Ends win e e' → lo ≤ p → (left left' : ℕ) (a : Abbrev)
-      → Runs win e e' p (Unit {0}) (λ x _. PartTakes left x × PartFine up down x) (PartTakes left') (move-part up down)
+      → Runs win e e' p (Unit {0}) (λ x _. PartFits left x × PartFine up down x) (PartFits left') (move-part up down)
       (scalar-part left a) (scalar-part left' a)
   unfolding scalar-part _>>=_ stop
   scalar-part-moves t h left left' (abbreviation [] l) = stops _
@@ -191,19 +191,19 @@ module _ {s s' : List ℕ} {lo hi up down : ℕ} {win : Window s s' lo hi up dow
       through _ (values-move t left left' ks (omega arith)) (λ vs q₁ g₁ z₁. payload-part-moves t (omega arith) left left' code vs z₁ l))
 
   pub unabbreviated-moves : {e e' p : ℕ} → Ends win e e' → lo ≤ p → (left left' : ℕ)
-      → Runs win e e' p (Unit {0}) (λ x _. PartTakes left x × PartFine up down x) (PartTakes left') (move-part up down)
+      → Runs win e e' p (Unit {0}) (λ x _. PartFits left x × PartFine up down x) (PartFits left') (move-part up down)
       (unabbreviated left) (unabbreviated left')
-  unfolding unabbreviated _>>=_ give move-part move-record move-load PartTakes PartFine RecordFine LoadFine record-list load-list
+  unfolding unabbreviated _>>=_ give move-part move-record move-load PartFits PartFine RecordFine LoadFine record-list load-list
   unabbreviated-moves t h left left' =
       so _ (vbrs t h 6) (λ c q g _.
       so _ (vbrs t (omega arith) 6) (λ n q₁ g₁ _.
       on _ (repeated-moves t left left' n _ (omega arith)) (λ vs q₂ g₂ z₂.
       giving _ (omega (arith, length-append vs []), tt) (λ v. omega (arith, length-append vs [])))))
 
-  pub rest-moves : {e e' p : ℕ} → Ends win e e' → lo ≤ p → (left left' : ℕ) (x : Part) → PartTakes left x → PartFine up down x
-      → Runs win e e' p (PartTakes left' x) (λ r _. (length (record-list r) ≤ left) × RecordFine up down r) (λ r. length (record-list r) ≤ left')
+  pub rest-moves : {e e' p : ℕ} → Ends win e e' → lo ≤ p → (left left' : ℕ) (x : Part) → PartFits left x → PartFine up down x
+      → Runs win e e' p (PartFits left' x) (λ r _. (length (record-list r) ≤ left) × RecordFine up down r) (λ r. length (record-list r) ≤ left')
       (move-record up down) (rest left x) (rest left' (move-part up down x))
-  unfolding rest _>>=_ give move-part move-record move-load PartTakes PartFine RecordFine LoadFine record-list load-list
+  unfolding rest _>>=_ give move-part move-record move-load PartFits PartFine RecordFine LoadFine record-list load-list
   rest-moves t h left left' (whole r) z f = giving r (z, f) (λ v. v)
   rest-moves t h left left' (listing code vs k n) z f =
       on _ (repeated-moves t (left - length vs) (left' - length vs) n k h) (λ xs q g z₁.

@@ -9,13 +9,15 @@ use lib.ListN.{length}
 use Rattle.terms.specs.Limits.{max-input}
 use Rattle.bits.specs.Reader.{Reader, Answer, got}
 use Rattle.bits.specs.Bits.{bit, limit}
+use Rattle.bits.proofs.Answers.{when-got}
 use Rattle.walk.specs.Record.{Load, no-load, list-load, blob-load, Record, a-record}
 use Rattle.walk.specs.Piece.{Head, head, Piece, the-record, definition, blockinfo, skipped, block, Pieces, done, _then_, State}
 use Rattle.walk.specs.Item.{Context, Opening, headed, opening, Pass, body-of, nested}
-use Rattle.exchange.specs.Shift.{Takes, Holds, Wants, Began, size, Headed, move-load, move-record, move-head, Fitting, Asks, Open, Fines, Made, move-piece, move-pieces, move-opening, move-option, Like, like-self}
-use Rattle.exchange.specs.Law.{Window, Exact, Passes, Gets, exact-ends, taken}
-use Rattle.exchange.specs.Apart.{one, many}
-use Rattle.exchange.specs.Moves.{exact-out, opening-moves, body-moves, item-moves, items-move, nested-moves}
+use Rattle.walk.proofs.Answers.{size-of, Takes, Holds, item-runs, nesteds}
+use Rattle.exchange.proofs.Shift.{Wants, Began, Headed, move-load, move-record, move-head, Fitting, Asks, Open, Fines, Made, move-piece, move-pieces, move-opening, move-option, Like, like-self}
+use Rattle.exchange.proofs.Law.{Window, Exact, Passes, Gets, exact-ends, taken}
+use Rattle.exchange.proofs.Moves.{exact-out, opening-moves, body-moves, item-moves, items-move, nested-moves}
+use Rattle.exchange.proofs.Apart.{one, many}
 
 -- ---- moving by nothing is nothing
 pub zero-mv : (p : ℕ) → p + 0 - 0 ≡ p
@@ -55,10 +57,6 @@ mutual
   pub zero-pieces : (xs : Pieces) → move-pieces 0 0 0 0 xs ≡ xs
   zero-pieces (done end) = ap done (zero-mv end)
   zero-pieces (_then_ x xs) = ap₂ _then_ (zero-piece x) (zero-pieces xs)
-
-pub limit-le : (s : List ℕ) (e : ℕ) → limit s e ≤ 8 * length s
-unfolding limit
-limit-le s e = omega arith
 
 -- ---- two streams
 pub still : {s s' : List ℕ} (lo hi : ℕ) → ((x : ℕ) → lo ≤ x → x < hi → bit s x ≡ bit s' x) → length s' ≡ length s → Window s s' lo hi 0 0
@@ -164,18 +162,15 @@ module _ (skips : Pass) (s : List ℕ) (d : ℕ) (c : Context) (st : State) (e p
       let (w₁, w₂, w₃, w₄, w₅) = v .tells in
       record { rises = w₁; before = w₂; within-end = v .stays (omega arith); takes = w₃; began = w₄ }
 
-  pub items-facts : (k q : ℕ) (xs : Pieces) → many skips d k c st s e p ≡ got xs q
-      → (p ≤ q) × Holds (c .top) st xs × (p ≤ limit s e → q ≤ limit s e)
-  items-facts k q xs z =
-      let v = keep-items (alone s) (still-passes (alone s) skips) 0 0 d c (like-self st) e p (omega arith) k q xs z in
-      (v .rises, v .tells .0, v .stays)
+  pub items-facts : (k q : ℕ) (xs : Pieces) → many skips d k c st s e p ≡ got xs q → (p ≤ q) × (p ≤ limit s e → q ≤ limit s e) × Holds (c .top) st xs
+  items-facts k q xs z = when-got (item-runs k (nested d skips) skips c st s e p (nesteds d skips)) z
 
   pub opening-facts : (q from : ℕ) (h : Head) → opening c st s e p ≡ got (headed from h) q → (from < q) × Headed (limit s e) h q × (from ≡ p)
   unfolding Open
   opening-facts q from h z = keep-opening (alone s) (still-passes (alone s) skips) 0 0 d c (like-self st) e p (omega arith) q (headed from h) z .tells
 
   pub body-facts : (q from : ℕ) (h : Head) (x : Piece) → Headed (limit s e) h p → from < p
-      → body-of (nested d skips) skips from st h s e p ≡ got x q → (p ≤ q) × (q ≡ p + 8 * size h)
+      → body-of (nested d skips) skips from st h s e p ≡ got x q → (p ≤ q) × (q ≡ p + 8 * size-of h)
   body-facts q from h x z g y =
       let ps = still-passes (alone s) skips in
       let f = fitting-self (limit s e) h p z in

@@ -1,8 +1,7 @@
--- What was met, moved: bit and byte places by up - down (given in bits), operand places by og - oo; and what pieces take of the rooms.
--- Assumes nothing.
+-- What was met, moved: bit and byte places by up - down (given in bits), operand places by og - oo. What it takes of the rooms stays. Assumes nothing.
 use mathlib.Core.Path.{_≡_, refl, ap, ap₂}
-use mathlib.Core.Bool.{Bool, true, false, false≢true}
-use mathlib.Core.List.{[], _++_}
+use mathlib.Core.Bool.{Bool}
+use mathlib.Core.List.{_++_}
 use mathlib.Core.Option.{Option, none as nothing, some}
 use Prim.Native.Nat.{ℕ, _+_, _-_, _*_, _/_, _%_, _≤_, _<_}
 use native.Mathlib.Omega.{arith}
@@ -13,34 +12,9 @@ use Rattle.abbrev.specs.BlockInfo.{shared-for}
 use Rattle.walk.specs.Record.{Load, no-load, list-load, blob-load, Record, a-record, Part, whole, listing, blobbing, array-kind, load-list, record-list, load-blob, record-blob}
 use Rattle.walk.specs.Piece.{Head, head, Piece, the-record, definition, blockinfo, skipped, block, Pieces, done, _then_, count, counts, store, all-store, blobs, all-blobs, added, all-added, own, State, after, entered}
 use Rattle.walk.specs.Item.{Begun, closing, heads, defines, records, Opening, ended, defined, recorded, headed}
+use Rattle.walk.proofs.Answers.{PartFits, tail, Takes}
 
--- ---- what pieces take of the rooms
--- a leave event; the top level has none
-unfoldable pub tail : Bool → ℕ
-tail true = 0
-tail false = 1
-
-pub tail-top : (b : Bool) (n : ℕ) → b ≡ true → tail b ≤ n
-unfolding tail
-tail-top true n h = omega arith
-tail-top false n h = absurd (false≢true h)
-
--- of the operand store, by a record's scalar part
-unfoldable pub PartTakes : ℕ → Part → Type 0
-PartTakes left (whole r) = length (record-list r) ≤ left
-PartTakes left (listing code vs k n) = length vs ≤ left
-PartTakes left (blobbing code vs n) = length vs ≤ left
-
--- by a piece; by what a block holds, with its enter and its leave event; by the items of a block; by an item
-unfoldable pub Takes : State → Piece → Type 0
-Takes st x = (count x ≤ st .room) × (length (store x) ≤ st .left)
-
-unfoldable pub Inner : State → Pieces → Type 0
-Inner st xs = (counts xs + 2 ≤ st .room) × (length (all-store xs) ≤ st .left)
-
-unfoldable pub Holds : Bool → State → Pieces → Type 0
-Holds top st xs = (counts xs + tail top ≤ st .room) × (length (all-store xs) ≤ st .left)
-
+-- ---- what an item takes of the rooms; the end wants room for a leave event
 unfoldable pub Wants : Bool → State → Option Piece → Type 0
 Wants top st nothing = tail top ≤ st .room
 Wants top st (some x) = Takes st x
@@ -53,9 +27,6 @@ Began (definition a) p q = Unit {0}
 Began (blockinfo from (head b w at n) sh) p q = (from < 8 * at) × (q ≡ 8 * at + 8 * n) × (from ≡ p) × (q % 32 ≡ 0)
 Began (skipped from (head b w at n)) p q = (from < 8 * at) × (q ≡ 8 * at + 8 * n) × (from ≡ p) × (q % 32 ≡ 0)
 Began (block from (head b w at n) inner) p q = (from < 8 * at) × (q ≡ 8 * at + 8 * n) × (from ≡ p) × (q % 32 ≡ 0)
-
-unfoldable pub size : Head → ℕ
-size (head b w at n) = n
 
 -- a head that ends at q
 unfoldable pub Stands : Head → ℕ → Type 0
@@ -130,13 +101,13 @@ module _ (up down : ℕ) where
   Front st closing q = Unit {0}
   Front st (heads h) q = Stands h q
   Front st (defines a) q = Unit {0}
-  Front st (records x) q = PartTakes (st .left) x × PartFine x
+  Front st (records x) q = PartFits (st .left) x × PartFine x
 
   unfoldable pub FrontAsks : State → Begun → Type 0
   FrontAsks st closing = Unit {0}
   FrontAsks st (heads h) = Unit {0}
   FrontAsks st (defines a) = Unit {0}
-  FrontAsks st (records x) = PartTakes (st .left) x
+  FrontAsks st (records x) = PartFits (st .left) x
 
   -- what an opening asks of the second run's rooms, and of its end `lim`
   unfoldable pub Asks : ℕ → Bool → State → Opening → Type 0

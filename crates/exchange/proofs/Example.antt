@@ -1,16 +1,14 @@
 -- Demand 3 at two inputs, and the exchanged inputs by evaluation. The stores are just large enough. Assumes nothing.
-use mathlib.Core.Path.{_≡_, refl, sym, _∙_}
-use mathlib.Core.Bool.{false, false≢true}
+use mathlib.Core.Path.{_≡_, refl}
 use mathlib.Core.List.{List, [], _∷_}
 use Prim.Native.Nat.{ℕ}
 use native.Mathlib.Omega.{arith}
-use lib.Dec.{eqb}
 use Rattle.bits.specs.Reader.{onward, _>>=_, give, stop, require, if_then_else_, here, turns, at-place, placed}
 use Rattle.bits.specs.Bits.{bit, field, limit, field-at, reach, read, align, chunks, vbr, ends-at}
 use Rattle.bitcode.specs.declared.ScalarOperand.the-variants.{Literal, Fixed, Vbr, Char6}
 use Rattle.bitcode.specs.declared.Signature.{Signature}
 use Rattle.bitcode.specs.Scalar.{ascii, value}
-use Rattle.bitcode.specs.Header.{word, wrapper-magic, wrapped, signature}
+use Rattle.bitcode.specs.Header.{word, wrapped, signature}
 use Rattle.abbrev.specs.Abbrev.{blob, array, abbreviation, width, kind, operand, element, also, rest-of, operands, define, number-of, lookup}
 use Rattle.abbrev.specs.BlockInfo.{shared, shared-for, every, or-else, readable, chosen, info-definition, set-bid, letters, block-name, record-name, info-record, info-numbered, info-item, info-on, info}
 use Rattle.walk.specs.Record.{no-load, list-load, blob-load, a-record, stored, values, repeated, octets, bytes-if, bytes, payload-part, scalar-part, unabbreviated, array-kind, rest, load-list, record-list}
@@ -18,10 +16,9 @@ use Rattle.walk.specs.Piece.{head, Piece, the-record, definition, blockinfo, sk
 use Rattle.walk.specs.Item.{heading, used, begun, begin, event-room, leave-room, fits, finish, at-end, opening, within, body-of, complete, item, going-on, items, nested}
 use Rattle.walk.specs.Walk.{top-level, start, top-items, Outcome, denied, accepted, outcome, walk-stream, walk-by, listed, those, walk}
 use Rattle.exchange.specs.Spot.{Spot, here as at-spot, later, inside, plug, IsBlock, Quiet, Quiets, from-of, head-end, to-of}
-use Rattle.exchange.specs.Exchange.{exchange}
-use Rattle.exchange.specs.Input.{base-of}
-use Rattle.exchange.specs.Demand3.{exchanged}
-use Rattle.exchange.specs.Groups.{Exchanged, demand-3}
+use Rattle.exchange.specs.Input.{exchange, base-of, exchanged}
+use Rattle.exchange.specs.Demand3.{Exchanged}
+use Rattle.exchange.proofs.Demand3.{demand-3}
 
 shown : Outcome → List Event
 shown (denied r) = []
@@ -109,9 +106,9 @@ deep-swapped =
 -- ---- what the walk gives, by evaluation: as they are, and exchanged
 evaluated :
     (walk flat [] 80 5 ≡ accepted flat-header (plug flat-spot flat-first flat-second))
-    × (shown (walk (exchanged flat-first flat-second (base-of flat) flat) [] 80 5) ≡ flat-swapped)
+    × (shown (walk (exchanged flat flat-first flat-second) [] 80 5) ≡ flat-swapped)
     × (walk deep deep-skips 72 4 ≡ accepted deep-header (plug deep-spot deep-first deep-second))
-    × (shown (walk (exchanged deep-first deep-second (base-of deep) deep) deep-skips 72 4) ≡ deep-swapped)
+    × (shown (walk (exchanged deep deep-first deep-second) deep-skips 72 4) ≡ deep-swapped)
 unfolding flat flat-header flat-first flat-second flat-spot flat-swapped deep deep-skips deep-header deep-first deep-second deep-spot deep-swapped
     shown plug exchanged base-of exchange from-of to-of head-end onward _>>=_ give stop require if_then_else_ here turns at-place placed
     bit field limit field-at reach read align chunks vbr ends-at ascii value word wrapped signature
@@ -124,16 +121,26 @@ unfolding flat flat-header flat-first flat-second flat-spot flat-swapped deep de
 evaluated = (refl, refl, refl, refl)
 
 -- ---- demand 3 applies to both
-flat-plain : eqb (word flat 0) wrapper-magic ≡ false
-unfolding word flat
-flat-plain = refl
-
 flat-holds : Exchanged flat [] 80 5 flat-header flat-spot flat-first flat-second
-unfolding IsBlock Quiet Quiets flat-first flat-second from-of
-flat-holds = demand-3 flat [] 80 5 flat-header flat-spot flat-first flat-second (evaluated .0)
-    tt tt (tt, ((tt, tt), tt)) (tt, tt) refl (λ z. absurd (false≢true (sym flat-plain ∙ z)))
+unfolding IsBlock Quiet Quiets flat flat-first flat-second from-of word
+flat-holds = demand-3 flat [] 80 5 flat-header flat-spot flat-first flat-second (record {
+  meets = evaluated .0;
+  first-block = tt;
+  second-block = tt;
+  aligned = refl;
+  clear = λ z. absurd (omega arith);
+  first-quiet = (tt, ((tt, tt), tt));
+  second-quiet = (tt, tt);
+})
 
 deep-holds : Exchanged deep deep-skips 72 4 deep-header deep-spot deep-first deep-second
 unfolding IsBlock Quiet Quiets deep deep-first deep-second from-of base-of word if_then_else_
-deep-holds = demand-3 deep deep-skips 72 4 deep-header deep-spot deep-first deep-second (evaluated .2)
-    tt tt (tt, (tt, (tt, tt))) tt refl (λ z. omega arith)
+deep-holds = demand-3 deep deep-skips 72 4 deep-header deep-spot deep-first deep-second (record {
+  meets = evaluated .2;
+  first-block = tt;
+  second-block = tt;
+  aligned = refl;
+  clear = λ z. omega arith;
+  first-quiet = (tt, (tt, (tt, tt)));
+  second-quiet = tt;
+})
