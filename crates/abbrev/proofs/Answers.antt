@@ -4,14 +4,14 @@ use mathlib.Core.List.{List, [], _∷_}
 use mathlib.Core.Option.{Option, none as nothing, some}
 use Prim.Native.Nat.{ℕ, zero, suc, _+_, _-_, _^_, _≤_, _<_}
 use native.Mathlib.Omega.{arith}
-use lib.Dec.{T, ltb, leb, eqb}
+use lib.Dec.{ltb, leb, eqb}
 use lib.ListN.{length}
 use borrow.Author.Tests.{ltb-true}
 use Rattle.terms.specs.Limits.{max-operands, max-shared}
-use Rattle.terms.specs.Refusals.{No, no, Refusal, refusal}
+use Rattle.terms.specs.Refusals.{No, no, Refusal}
 use Rattle.bits.specs.Reader.{Reader, Answer, got, refused, if_then_else_}
 use Rattle.bits.specs.Bits.{in-range}
-use Rattle.bits.proofs.Answers.{walk-number, Known, KnownAt, Has, Answers, on, gives, stops, branch, weaker, requires, heres, places, aligns, reads, vbrs}
+use Rattle.bits.proofs.Answers.{Known, KnownAt, Has, Answers, on, gives, stops, branch, weaker, requires, heres, places, aligns, reads, vbrs}
 use Rattle.abbrev.specs.Abbrev.{Abbrev, Operand, scalar, is-array, is-blob, width, kind, operand, element, rest-of, operands, define, number-of, lookup}
 use Rattle.abbrev.specs.BlockInfo.{Shared, every, or-else, readable, chosen, info-definition, set-bid, letters, block-name, record-name, info-record, InfoItem, info-end, info-adds, info-now, info-numbered, info-item, info-on, info}
 

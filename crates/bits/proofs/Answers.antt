@@ -1,16 +1,17 @@
 -- What every run of a reader obeys, whatever the stream: a value that is got has K, a refusal has Q, and the place goes forward and stays within the
 -- end. The proof for a definition is its text again. Assumes nothing.
-use mathlib.Core.Path.{_≡_, refl, subst}
+use mathlib.Core.Path.{_≡_, refl, sym, subst}
 use mathlib.Core.Bool.{Bool, true, false, _&&_, not}
 use mathlib.Core.List.{List}
-use Prim.Native.Nat.{ℕ, zero, suc, _+_, _-_, _*_, _/_, _%_, _^_, _≤_, _<_}
+use Prim.Native.Nat.{ℕ, zero, suc, _+_, _-_, _*_, _/_, _≤_}
 use native.Mathlib.Omega.{arith}
 use lib.ListN.{length}
 use lib.Dec.{T, leb, ltb, eqb}
-use borrow.Author.Tests.{leb-true, ltb-true}
-use Rattle.terms.specs.Refusals.{No, no, Refusal, refusal, buffer-overflow, vbr-overflow}
+use borrow.Author.Tests.{leb-true}
+use Rattle.terms.specs.Refusals.{No, no, Refusal, refusal, buffer-overflow}
 use Rattle.bits.specs.Reader.{Answer, got, refused, Reader, onward, _>>=_, give, stop, require, if_then_else_, here, turns, at-place, placed}
-use Rattle.bits.specs.Bits.{field, limit, in-range, field-at, reach, read, align, chunks, vbr}
+use Rattle.bits.specs.Bits.{limit, in-range, field-at, reach, read, align, chunks, vbr}
+use Rattle.bits.proofs.Vbr.{Ahead}
 
 -- ---- the numbers that a walk can refuse with: 1 to 20, but 4 and 14, which are the small calls' own
 abbrev pub walk-number : ℕ → Bool
@@ -103,35 +104,42 @@ places {A} {s} {e} {p} from {m} {K} x = record { has = go (m s e p) (x .has) }
 
 -- ---- bits
 bounded : {A : Type 0} (s : List ℕ) (e p t : ℕ) (b : Bool) (a : A) → leb t (limit s e) ≡ b → p ≤ t
-    → Has s e p (λ v q. q ≡ t) Known (if b then got a t else refused buffer-overflow)
+    → Has s e p (λ v q. (q ≡ t) × (q ≤ limit s e)) Known (if b then got a t else refused buffer-overflow)
 unfolding if_then_else_ Has Known
-bounded s e p t true a i l = (l, λ h. leb-true t (limit s e) i, refl)
+bounded s e p t true a i l = let m = leb-true t (limit s e) i in (l, λ h. m, (refl, m))
 bounded s e p t false a i l = tt
 
 module _ {s : List ℕ} {e p : ℕ} where
-  pub fields : (n : ℕ) → Answers (field-at n) s e p (λ v q. q ≡ p + n) Known
+  fields : (n : ℕ) → Answers (field-at n) s e p (λ v q. (q ≡ p + n) × (q ≤ limit s e)) Known
   unfolding field-at
   fields n = record { has = bounded s e p (p + n) _ _ refl (omega arith) }
 
-  pub aligns : Answers align s e p (λ u q. q ≡ (p + 31) / 32 * 32) Known
+  pub aligns : Answers align s e p (λ u q. (q ≡ (p + 31) / 32 * 32) × (q ≤ limit s e)) Known
   unfolding align reach
   aligns = record { has = bounded s e p ((p + 31) / 32 * 32) _ _ refl (omega arith) }
 
--- a number that is read takes a bit at least
-some-bits : {p q r : ℕ} (n : ℕ) → (in-range 1 64 n ≡ true) × (q ≡ p) → r ≡ q + n → p < r
+-- a number that is read takes a bit at least, and ends within the end
+some-bits : {s : List ℕ} {e p q r : ℕ} (n : ℕ) → (in-range 1 64 n ≡ true) × (q ≡ p) → (r ≡ q + n) × (r ≤ limit s e) → Ahead s e p r
 some-bits zero (i, j) h = absurd (let z : _≡_ {A = ℕ} 0 1 = cc in omega arith)
-some-bits (suc n) (i, j) h = omega arith
+some-bits (suc n) (i, j) (h, k) = record { past = omega arith; inside = k }
 
-pub reads : (n : ℕ) {s : List ℕ} {e p : ℕ} → Answers (read n) s e p (λ v q. p < q) Known
+pub reads : (n : ℕ) {s : List ℕ} {e p : ℕ} → Answers (read n) s e p (λ v q. Ahead s e p q) Known
 unfolding read Known
-reads n = on _ (requires (in-range 1 64 n) _ tt) (λ u q l k. weaker (fields n) (λ v r l₁ h. some-bits n k h))
+reads n = on _ (requires (in-range 1 64 n) _ tt) (λ u q l k. weaker (fields n) (λ v r m h. some-bits n k h))
 
-pub chunked : (k w shift acc : ℕ) {s : List ℕ} {e p : ℕ} → Answers (chunks k w shift acc) s e p (λ v q. p < q) Known
+-- and so does a VBR number
+further : {s : List ℕ} {e p q r : ℕ} → p ≤ q → Ahead s e q r → Ahead s e p r
+further l h = record { past = omega arith; inside = h .inside }
+
+chunked : (k w shift acc : ℕ) {s : List ℕ} {e p : ℕ} → Answers (chunks k w shift acc) s e p (λ v q. Ahead s e p q) Known
 unfolding chunks Known
 chunked zero w shift acc = stops _ tt
-chunked (suc k) w shift acc = on _ (reads w) (λ c q l h. on _ (requires (ltb shift 64) _ tt) (λ u q₁ l₁ g.
-    branch _ (λ i. gives _ (omega arith)) (λ i. weaker (chunked k w _ _) (λ v q₂ l₂ h₂. omega arith))))
+chunked (suc k) w shift acc {s} {e} {p} = on _ (reads w) (λ c q l h. on _ (requires (ltb shift 64) _ tt) (λ u r m g.
+    branch _ (λ i. gives _ (subst (Ahead s e p) (sym (g .1)) h)) (λ i. weaker (chunked k w _ _) (λ v t n j. further (omega arith) j))))
 
-pub vbrs : (w : ℕ) {s : List ℕ} {e p : ℕ} → Answers (vbr w) s e p (λ v q. p < q) Known
+pub vbrs : (w : ℕ) {s : List ℕ} {e p : ℕ} → Answers (vbr w) s e p (λ v q. Ahead s e p q) Known
 unfolding vbr Known
-vbrs w = on _ (requires (in-range 1 32 w) _ tt) (λ u q l g. weaker (turned (λ k. chunked k w 0 0)) (λ v q₁ l₁ h. omega arith))
+vbrs w = on _ (requires (in-range 1 32 w) _ tt) (λ u q l g. weaker (turned (λ k. chunked k w 0 0)) (λ v r m h. further l h))
+
+pub vbr-ahead : (s : List ℕ) (e p w v q : ℕ) → vbr w s e p ≡ got v q → Ahead s e p q
+vbr-ahead s e p w v q z = when-got (vbrs w) z .2

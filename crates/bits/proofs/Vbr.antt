@@ -1,4 +1,4 @@
--- The chunks of a VBR number, one at a time, and that each number that is read leaves the place further on. Assumes nothing.
+-- The chunks of a VBR number, one at a time, and that a number that is read leaves the place further on. Assumes nothing.
 use Prim.Native.Nat.{ℕ, zero, suc, _+_, _-_, _*_, _%_, _^_, _≤_, _<_}
 use mathlib.Core.Path.{_≡_, refl, sym, ap, _∙_}
 use mathlib.Core.List.{List}
@@ -10,11 +10,11 @@ use lib.Pow as P
 use borrow.Author.Tests.{lt-ltb, le-ltb}
 use Rattle.terms.specs.Refusals.{No, vbr-overflow}
 use Rattle.bits.specs.declared.Cursor.{Cursor}
-use Rattle.bits.specs.Reader.{got, Reader, onward, _>>=_, give, stop, require, if_then_else_, turns}
+use Rattle.bits.specs.Reader.{got, onward, _>>=_, give, require, if_then_else_, turns}
 use Rattle.bits.specs.Bits.{limit, read, chunks, vbr}
 use Rattle.bits.specs.Told.{At, Off}
 use Rattle.bits.proofs.Laws.{Reads, read-gives, limit-in, below-range, above-range, within-range}
-use Rattle.bits.proofs.Steps.{fail, never, apart, passed, arms, got-place}
+use Rattle.bits.proofs.Steps.{fail}
 
 -- a shift within a word keeps the digits that stay in it
 shl-mod : (x j k : ℕ) → x * 2 ^ k % 2 ^ (j + k) ≡ x % 2 ^ j * 2 ^ k
@@ -119,26 +119,6 @@ pub read-ahead : (s : List ℕ) (e p n v q : ℕ) → read n s e p ≡ got v q �
 read-ahead s e p n v q z =
     let g = read-gives s e p n v q z in
     record { past = omega (arith, g .some, g .moved); inside = omega (arith, g .inside, g .moved) }
-
-chunks-ahead : (s : List ℕ) (e w v q f p shift sum : ℕ) → chunks f w shift sum s e p ≡ got v q → Ahead s e p q
-unfolding chunks give stop
-chunks-ahead s e w v q zero p shift sum z = absurd (never z)
-chunks-ahead s e w v q (suc f) p shift sum z =
-    let c = apart (read w) _ s e p z in
-    let first = read-ahead s e p w (c .0) (c .1) (c .2) in
-    let t = passed _ _ s e (c .1) (c .3) in
-    arms
-    (λ (m : Reader No ℕ). m s e (c .1) ≡ got v q)
-    _
-    _
-    _
-    (t .1)
-    (λ i h. let m : c .1 ≡ q = got-place h in rw m at first)
-    (λ i h. let k = chunks-ahead s e w v q f (c .1) (shift + (w - 1)) _ h in record { past = omega (arith, first .past, k .past); inside = k .inside })
-
-pub vbr-ahead : (s : List ℕ) (e p w v q : ℕ) → vbr w s e p ≡ got v q → Ahead s e p q
-unfolding vbr turns
-vbr-ahead s e p w v q z = chunks-ahead s e w v q (suc (8 * length s)) p 0 0 (passed _ _ s e p z .1)
 
 -- the measure of a loop that reads: less is left behind a number that is read
 pub ahead-less : (s : List ℕ) (c d : Cursor) → Ahead s (c .end) (c .at) (d .at) → d .end ≡ c .end → limit s (d .end) - d .at < limit s (c .end) - c .at

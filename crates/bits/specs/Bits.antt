@@ -1,12 +1,12 @@
 -- Bits, fields, VBR numbers and the cursor's small calls (01, "Bits and VBR"). Assumes nothing.
-use mathlib.Core.Bool.{Bool, true, false, _&&_}
+use mathlib.Core.Bool.{Bool, _&&_}
 use mathlib.Core.List.{List, []}
 use Prim.Native.Nat.{ℕ, zero, suc, _+_, _-_, _*_, _/_, _%_, _^_, min}
 use lib.ListN.{getD, length, take, drop}
 use lib.IntN.{ℤ, pos, negsuc, negℤ}
 use lib.Dec.{ltb, leb, eqb}
 use Rattle.terms.specs.Limits.{max-input}
-use Rattle.terms.specs.Refusals.{No, no, buffer-overflow, vbr-overflow, alignment}
+use Rattle.terms.specs.Refusals.{No, buffer-overflow, vbr-overflow, alignment}
 use Rattle.bits.specs.Reader.{Answer, got, refused, Reader, _>>=_, _>>_, give, stop, require, if_then_else_, here, turns}
 
 -- "Bit i of the stream is bit i mod 8 of byte i/8"

@@ -3,7 +3,7 @@ use mathlib.Core.Path.{_≡_}
 use mathlib.Core.List.{List}
 use Prim.Native.Nat.{ℕ}
 use Rattle.terms.specs.Refusals.{No, no}
-use Rattle.bits.specs.Reader.{Answer, got, refused, Reader}
+use Rattle.bits.specs.Reader.{got, refused, Reader}
 use Rattle.bits.specs.Bits.{part}
 use Rattle.bits.specs.declared.Cursor.{Cursor}
 use Rattle.bits.specs.declared.Read.{Read}

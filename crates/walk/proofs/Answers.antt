@@ -1,26 +1,25 @@
 -- What every run of a record, an item and a block obeys: it goes forward, stays within its end, fits the rooms, and refuses by a walk's number. Assumes nothing.
-use mathlib.Core.Path.{_≡_, refl, sym, _∙_}
+use mathlib.Core.Path.{_≡_, refl}
 use mathlib.Core.Bool.{Bool, true, false}
-use mathlib.Core.List.{List, [], _∷_, _++_}
+use mathlib.Core.List.{List, [], _∷_}
 use mathlib.Core.Option.{Option, none as nothing, some}
 use Prim.Native.Nat.{ℕ, zero, suc, _+_, _-_, _*_, _/_, _^_, _≤_, _<_}
 use native.Mathlib.Omega.{arith}
-use lib.Dec.{T, ltb, leb, eqb}
+use lib.Dec.{ltb, leb, eqb}
 use lib.ListN.{length, length-append}
 use borrow.Author.Tests.{ltb-true, leb-true}
-use Rattle.terms.specs.Limits.{max-local, max-shared}
-use Rattle.terms.specs.Refusals.{No, no, Refusal, refusal, buffer-overflow}
-use Rattle.bits.specs.Reader.{Reader, Answer, got, refused, onward, require, if_then_else_, turns}
-use Rattle.bits.specs.Bits.{limit, ends-at}
+use Rattle.terms.specs.Limits.{max-local}
+use Rattle.terms.specs.Refusals.{Refusal, buffer-overflow}
+use Rattle.bits.specs.Reader.{Reader, Answer, got, refused, onward, require}
+use Rattle.bits.specs.Bits.{limit}
 use Rattle.bits.proofs.Answers.{Known, KnownAt, Has, Answers, on, gives, stops, branch, turned, weaker, requires, heres, places, aligns, reads, vbrs}
 use Rattle.bitcode.specs.declared.ScalarOperand.{ScalarOperand}
 use Rattle.bitcode.specs.declared.ScalarOperand.the-variants.{Vbr}
 use Rattle.bitcode.proofs.Answers.{scalars}
 use Rattle.abbrev.specs.Abbrev.{Payload, none, blob, array, Abbrev, abbreviation}
-use Rattle.abbrev.specs.BlockInfo.{info}
 use Rattle.abbrev.proofs.Answers.{definitions, numbers, lookups, infos}
-use Rattle.walk.specs.Record.{Load, no-load, list-load, blob-load, Record, a-record, stored, values, repeated, octets, bytes-if, bytes, Part, whole, listing, blobbing, payload-part, scalar-part, unabbreviated, rest, load-list, record-list}
-use Rattle.walk.specs.Piece.{Head, head, Piece, the-record, definition, blockinfo, skipped, block, Pieces, done, _then_, count, counts, store, all-store, State, after, entered}
+use Rattle.walk.specs.Record.{stored, values, repeated, bytes-if, bytes, Part, whole, listing, blobbing, payload-part, scalar-part, unabbreviated, rest, load-list, record-list}
+use Rattle.walk.specs.Piece.{Head, head, Piece, Pieces, count, counts, store, all-store, State, after, entered}
 use Rattle.walk.specs.Item.{Context, Begun, closing, heads, defines, records, heading, used, begun, begin, Opening, ended, defined, recorded, headed, event-room, leave-room, fits, finish, at-end, opening, within, Pass, Sub, body-of, complete, item, going-on, items, nested}
 
 -- ---- records: no more operands than there is room for

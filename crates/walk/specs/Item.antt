@@ -1,13 +1,12 @@
 -- The items of a block, and a block inside a block (01, "Walk"). Assumes nothing.
 use mathlib.Core.Bool.{Bool, true, false}
-use mathlib.Core.List.{List, []}
 use mathlib.Core.Option.{Option, none as nothing, some}
 use Prim.Native.Nat.{ℕ, zero, suc, _+_, _-_, _*_, _/_, _^_}
 use lib.ListN.{length}
 use lib.Dec.{ltb, leb, eqb}
 use Rattle.terms.specs.Limits.{max-local}
 use Rattle.terms.specs.Refusals.{No, Refusal, at-bit, buffer-overflow, no-such-abbrev, missing-end-block, too-deep, no-abbreviation-room, no-event-room, block-number-too-large}
-use Rattle.bits.specs.Reader.{Reader, Answer, got, refused, onward, _>>=_, _>>_, give, stop, require, if_then_else_, here, turns, placed}
+use Rattle.bits.specs.Reader.{Reader, got, onward, _>>=_, _>>_, give, stop, require, if_then_else_, here, turns, placed}
 use Rattle.bits.specs.Bits.{limit, read, align, vbr, ends-at}
 use Rattle.abbrev.specs.Abbrev.{Abbrev, define, number-of, lookup}
 use Rattle.abbrev.specs.BlockInfo.{info}

@@ -4,7 +4,7 @@ use Prim.Native.Nat.{ℕ, _+_, _-_}
 use lib.ListN.{length}
 use Rattle.abbrev.specs.Abbrev.{Abbrev}
 use Rattle.abbrev.specs.BlockInfo.{Shared, shared-for}
-use Rattle.walk.specs.Record.{Load, no-load, list-load, blob-load, Record, a-record, record-list, record-blob}
+use Rattle.walk.specs.Record.{no-load, list-load, blob-load, Record, a-record, record-list, record-blob}
 
 -- a block's head: number, width, body byte, body length in bytes
 pub data Head : Type 0 where

@@ -1,10 +1,9 @@
 -- The bench samples of 01 that are marked P, and its dump sample: the definition computes each. Assumes nothing.
 use mathlib.Core.Path.{_≡_, refl}
-use mathlib.Core.Bool.{_&&_}
-use mathlib.Core.List.{List, [], _∷_, _++_, map}
-use Prim.Native.Nat.{ℕ, _+_, _*_}
+use mathlib.Core.List.{List, [], _∷_, map}
+use Prim.Native.Nat.{ℕ}
 use lib.ListN.{length, replicate}
-use lib.IntN.{ℤ, pos, negsuc, negℤ}
+use lib.IntN.{ℤ, pos, negsuc}
 use Rattle.terms.specs.Refusals.{No, no}
 use Rattle.bits.specs.Reader.{Answer, got, refused, onward, _>>=_, give, stop, require, if_then_else_, here, turns, at-place, placed}
 use Rattle.bits.specs.Bits.{bit, field, limit, field-at, reach, read, align, chunks, vbr, ends-at, signed-of}
@@ -13,7 +12,7 @@ use Rattle.bitcode.specs.Header.{word, wrapped, signature}
 use Rattle.abbrev.specs.Abbrev.{width, kind, operand, element, also, rest-of, operands, define, number-of, lookup}
 use Rattle.abbrev.specs.BlockInfo.{shared-for, every, or-else, readable, chosen, info-definition, set-bid, letters, block-name, record-name, info-record, info-numbered, info-item, info-on, info}
 use Rattle.walk.specs.Record.{stored, values, repeated, octets, bytes-if, bytes, payload-part, scalar-part, unabbreviated, array-kind, rest, load-list, record-list}
-use Rattle.walk.specs.Piece.{enter, leave, record-event, record-of, entering, skipping, leaving, events, all-events, count, counts, store, all-store, added, all-added, own, after, entered}
+use Rattle.walk.specs.Piece.{record-of, entering, skipping, leaving, events, all-events, count, counts, store, all-store, added, all-added, own, after, entered}
 use Rattle.walk.specs.Item.{heading, used, begun, begin, event-room, leave-room, fits, finish, at-end, opening, within, body-of, complete, item, going-on, items, nested}
 use Rattle.walk.specs.Walk.{top-level, start, top-items, outcome, walk-stream, walk-by, listed, those, walk, entry, entries, filled, Result, no-header, result, walked}
 

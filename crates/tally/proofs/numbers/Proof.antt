@@ -1,7 +1,8 @@
 -- `tally::numbers` meets its contract: the sum in hand and the sum of what is left are the whole, and each number leaves fewer bits. Assumes nothing.
 use Prim.Native.Nat.{_-_}
 use Rattle.bits.specs.Bits.{limit, vbr}
-use Rattle.bits.proofs.Vbr.{vbr-ahead, ahead-less}
+use Rattle.bits.proofs.Answers.{vbr-ahead}
+use Rattle.bits.proofs.Vbr.{ahead-less}
 use Rattle.tally.proofs.Sums.{Summing, summing-start, summing-more, summing-over}
 use borrow.Author.Needs.{needs}
 use Rattle.tally.proofs.numbers.Statement.{statement}
