@@ -29,8 +29,7 @@ pub enum Count {
 
 // The place of the next b from a place on, and the end where there is none.
 pub fn find(s: &[u8], from: usize, b: u8) -> usize
-    requires { ⌜ from ≤ length (now s) ⌝ }
-    ensures { λ r. ⌜ (from ≤ r) × (r ≤ length (now (s .entry))) ⌝ }
+    ensures { λ r. ⌜ (min from (length (now (s .entry))) ≤ r) × (r ≤ length (now (s .entry))) ⌝ }
 {
     let mut i = from;
     while i < s.len() {
@@ -39,7 +38,7 @@ pub fn find(s: &[u8], from: usize, b: u8) -> usize
         }
         i += 1;
     }
-    i
+    s.len()
 }
 
 // The place of the next space behind a place, and the end where there is none.

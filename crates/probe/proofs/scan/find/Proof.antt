@@ -1,4 +1,4 @@
--- `probe::scan::find` is safe and ends. The place stays between the start and the end. The measure is what is left of the slice.
+-- `probe::scan::find` is safe and ends. The place only grows. The measure is what is left of the slice.
 use Prim.Native.Nat.{_≤_, _-_}
 use lib.ListN.{length}
 use borrow.Author.Needs.{needs}
@@ -6,7 +6,7 @@ use Rattle.probe.proofs.scan.find.Statement.{statement}
 use Rattle.probe.proofs.scan.find.Tie as tie
 
 abbrev Inv-loop : tie.InvT-loop
-Inv-loop s from b i₀ i = (from ≤ i) × (i ≤ length s)
+Inv-loop s from b i₀ i = from ≤ i
 
 abbrev μ-loop : tie.MeasureT-loop
 μ-loop s from b i₀ i = length s - i
