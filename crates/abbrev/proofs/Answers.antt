@@ -12,7 +12,7 @@ use Rattle.terms.specs.Refusals.{No, no, Refusal}
 use Rattle.bits.specs.Reader.{Reader, Answer, got, refused, if_then_else_}
 use Rattle.bits.specs.Bits.{in-range}
 use Rattle.bits.proofs.Answers.{Known, KnownAt, Has, Answers, on, gives, stops, branch, weaker, requires, heres, places, aligns, reads, vbrs}
-use Rattle.abbrev.specs.Abbrev.{Abbrev, Operand, scalar, is-array, is-blob, width, kind, operand, element, rest-of, operands, define, number-of, lookup}
+use Rattle.abbrev.specs.Abbrev.{Abbrev, Operand, scalar, is-array, is-blob, width, kind, operand, element, rest-of, operands, define, number-of, look-up}
 use Rattle.abbrev.specs.BlockInfo.{Shared, every, or-else, readable, chosen, info-definition, set-bid, letters, block-name, record-name, info-record, InfoItem, info-end, info-adds, info-now, info-numbered, info-item, info-on, info}
 
 -- ---- definitions
@@ -61,8 +61,8 @@ pub numbers : (w : ℕ) {s : List ℕ} {e p : ℕ} → Answers (number-of w) s e
 unfolding number-of Known
 numbers w = on _ (requires (in-range 1 32 w) _ tt) (λ u q l g. weaker (reads w) (λ v r m h. omega arith))
 
-pub lookups : (r : No) (i : ℕ) (xs : List Abbrev) {s : List ℕ} {e p : ℕ} → Known r → Answers (lookup r i xs) s e p (λ a q. Unit {0}) Known
-unfolding lookup
+pub lookups : (r : No) (i : ℕ) (xs : List Abbrev) {s : List ℕ} {e p : ℕ} → Known r → Answers (look-up r i xs) s e p (λ a q. Unit {0}) Known
+unfolding look-up
 lookups r i [] k = stops _ k
 lookups r zero (a ∷ xs) k = gives _ tt
 lookups r (suc i) (a ∷ xs) k = lookups r i xs k

@@ -87,7 +87,7 @@ number-of w = do
   read w
 
 -- "Numbers from 4": the one at index i of those that the block has, those shared for it first; r if there is none
-unfoldable pub lookup : No → ℕ → List Abbrev → Reader No Abbrev
-lookup r i [] = stop r
-lookup r zero (a ∷ rest) = give a
-lookup r (suc i) (a ∷ rest) = lookup r i rest
+unfoldable pub look-up : No → ℕ → List Abbrev → Reader No Abbrev
+look-up r i [] = stop r
+look-up r zero (a ∷ rest) = give a
+look-up r (suc i) (a ∷ rest) = look-up r i rest

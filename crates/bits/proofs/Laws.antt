@@ -16,7 +16,7 @@ use Rattle.terms.specs.Refusals.{No, buffer-overflow, vbr-overflow, alignment}
 use Rattle.bits.specs.Reader.{got, refused, onward, _>>=_, if_then_else_, here}
 use Rattle.bits.specs.Bits.{bit, field, limit, in-range, reach, field-at, read, align, skip, part, peek, staying, next-bytes, shown}
 use Rattle.bits.specs.Told.{At, Off}
-use Rattle.bits.specs.Word.{word}
+use Rattle.bits.specs.Word.{word64}
 use Rattle.bits.proofs.Steps.{on, off, from-here, off-here, ends, pass, pass-off, fail, never, passed, arms, got-value, got-place}
 
 -- a bit is 0 or 1
@@ -91,7 +91,7 @@ field-byte s b k n h =
     omega arith
 
 -- 64 bits from a byte on are eight bytes
-pub field-word : (s : List ℕ) (b : ℕ) → Bytes s → field s (8 * b) 64 ≡ word s b
+pub field-word : (s : List ℕ) (b : ℕ) → Bytes s → field s (8 * b) 64 ≡ word64 s b
 field-word s b h =
     let z : field s (8 * b) 64 ≡ getD s b 0 + 256 * field s (8 * (b + 1)) 56 = rw (add-zero b) at (field-byte s b 0 56 (h (b + 0))) in
     omega (
@@ -114,7 +114,7 @@ two-shifts w n h =
     (rw e at f) ∙ rw (P.shl-shr w (64 - n))
 
 -- a field of n bits at p, out of the word at p's byte, where they all lie in it
-pub from-word : (s : List ℕ) (p n : ℕ) {w r : ℕ} → Bytes s → w ≡ word s (p / 8) → r ≡ w / 2 ^ (p % 8) % 2 ^ n → p % 8 + n ≤ 64 → r ≡ field s p n
+pub from-word : (s : List ℕ) (p n : ℕ) {w r : ℕ} → Bytes s → w ≡ word64 s (p / 8) → r ≡ w / 2 ^ (p % 8) % 2 ^ n → p % 8 + n ≤ 64 → r ≡ field s p n
 from-word s p n {w} {r} hs hw hr h =
     let e : 8 * (p / 8) + p % 8 ≡ p = omega arith in
     let f : field s (8 * (p / 8)) 64 / 2 ^ (p % 8) % 2 ^ n ≡ field s (8 * (p / 8) + p % 8) n = field-part s (8 * (p / 8)) 64 (p % 8) n h in
@@ -148,13 +148,13 @@ whole-rest x k m l h =
 pub rest-of-byte : (s : List ℕ) (p : ℕ) {x : ℕ} → x ≡ getD s (p / 8) 0 → x < 256 → x / 2 ^ (p % 8) ≡ field s p (8 - p % 8)
 rest-of-byte s p {x} hx l = whole-rest x (p % 8) 8 (omega arith) l ∙ from-byte s p (8 - p % 8) hx refl (omega arith)
 
-rest-of-word : (s : List ℕ) (p : ℕ) {w : ℕ} → Bytes s → w ≡ word s (p / 8) → w / 2 ^ (p % 8) ≡ field s p (64 - p % 8)
+rest-of-word : (s : List ℕ) (p : ℕ) {w : ℕ} → Bytes s → w ≡ word64 s (p / 8) → w / 2 ^ (p % 8) ≡ field s p (64 - p % 8)
 rest-of-word s p {w} hs hw =
     let l : w < 2 ^ 64 = rw (hw ∙ sym (field-word s (p / 8) hs)) (field-lt s (8 * (p / 8)) 64) in
     whole-rest w (p % 8) 64 (omega arith) l ∙ from-word s p (64 - p % 8) hs hw refl (omega arith)
 
 -- a field that nine bytes hold: the word's bits from its place on, and above them the low bits of the byte behind the word
-pub from-nine : (s : List ℕ) (p n : ℕ) {w x y : ℕ} → Bytes s → w ≡ word s (p / 8) → x ≡ getD s (p / 8 + 8) 0
+pub from-nine : (s : List ℕ) (p n : ℕ) {w x y : ℕ} → Bytes s → w ≡ word64 s (p / 8) → x ≡ getD s (p / 8 + 8) 0
     → y ≡ x % 2 ^ (n - (64 - p % 8)) → 64 < p % 8 + n → n ≤ 64 → w / 2 ^ (p % 8) + y * 2 ^ (64 - p % 8) % 2 ^ 64 ≡ field s p n
 from-nine s p n {w} {x} {y} hs hw hx hy k l =
     let q = p + (64 - p % 8) in

@@ -7,7 +7,7 @@ use terms::VBR_OVERFLOW;
 ghost use mathlib.Core.Path.{_≡_};
 ghost use Prim.Native.Nat.{_+_, _*_, _/_, _%_, _^_, _≤_, _<_, min};
 ghost use lib.ListN.{length, getD};
-ghost use Rattle.bits.specs.Word.{word};
+ghost use Rattle.bits.specs.Word.{word64};
 ghost use Rattle.bits.specs.Bits.{field, limit, read, peek, align, vbr, skip, next-bytes, bits-left, ends-at, signed-of as signedOf};
 ghost use Rattle.bits.specs.Told.{Gives, ofRead, ofPeek, ofMove, Parts};
 
@@ -79,7 +79,7 @@ fn byte_at(s: &[u8], i: usize) -> u8
 // The eight bytes from b on, which are there.
 fn eight_there(s: &[u8], b: usize) -> u64
     requires { ⌜ b + 8 ≤ length (now s) ⌝ }
-    ensures { λ r. ⌜ r ≡ word (now (s .entry)) b ⌝ }
+    ensures { λ r. ⌜ r ≡ word64 (now (s .entry)) b ⌝ }
 {
     eight(
         s[b],

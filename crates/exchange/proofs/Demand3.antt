@@ -7,7 +7,7 @@ use lib.ListN.{length}
 use Rattle.walk.specs.Record.{no-load, list-load, blob-load, Record, a-record}
 use Rattle.walk.specs.Piece.{Head, head, Piece, the-record, definition, blockinfo, skipped, block, Pieces, done, _then_, Event, record-of, entering, skipping, leaving, events, all-events, store, all-store, blobs, all-blobs}
 use Rattle.walk.specs.Walk.{those, walk}
-use Rattle.exchange.specs.Spot.{Spot, here, later, inside, plug, from-of, to-of, bytes-of, front, back, front-store, back-store, front-blobs, back-blobs}
+use Rattle.exchange.specs.Spot.{Spot, right-here, later, inside, plug, from-of, to-of, byte-length, front, back, front-store, back-store, front-blobs, back-blobs}
 use Rattle.exchange.specs.Demand3.{Shifted, s-enter, s-skip, s-leave, s-plain, s-list, s-blob, Each, none, more, Demand-3}
 use Rattle.exchange.proofs.Shift.{move-load, move-record, move-head, LoadFine, RecordFine, HeadFine, Fine, Fines, move-piece, move-pieces, store-move, blobs-move}
 use Rattle.exchange.proofs.Swap.{Blind}
@@ -64,7 +64,7 @@ regroup f a b k l x = simp append-assoc
 
 pub plug-events : (t : Spot) (a b : Piece) → all-events (plug t a b) ≡ front t ++ events a ++ events b ++ back t
 unfolding plug all-events events front back
-plug-events (here xs) a b = simp append-assoc
+plug-events (right-here xs) a b = simp append-assoc
 plug-events (later x t) a b = ap (λ y. events x ++ y) (plug-events t a b) ∙ simp append-assoc
 plug-events (inside from h t xs) a b =
     ap (λ y. entering h ∷ (y ++ (leaving h ∷ []) ++ all-events xs)) (plug-events t a b)
@@ -72,13 +72,13 @@ plug-events (inside from h t xs) a b =
 
 pub plug-store : (t : Spot) (a b : Piece) → all-store (plug t a b) ≡ front-store t ++ store a ++ store b ++ back-store t
 unfolding plug all-store store front-store back-store
-plug-store (here xs) a b = simp append-assoc
+plug-store (right-here xs) a b = simp append-assoc
 plug-store (later x t) a b = ap (λ y. store x ++ y) (plug-store t a b) ∙ simp append-assoc
 plug-store (inside from h t xs) a b = ap (λ y. y ++ all-store xs) (plug-store t a b) ∙ simp append-assoc
 
 pub plug-blobs : (t : Spot) (a b : Piece) → all-blobs (plug t a b) ≡ front-blobs t ++ blobs a ++ blobs b ++ back-blobs t
 unfolding plug all-blobs blobs front-blobs back-blobs
-plug-blobs (here xs) a b = simp append-assoc
+plug-blobs (right-here xs) a b = simp append-assoc
 plug-blobs (later x t) a b = ap (λ y. blobs x ++ y) (plug-blobs t a b) ∙ simp append-assoc
 plug-blobs (inside from h t xs) a b = ap (λ y. y ++ all-blobs xs) (plug-blobs t a b) ∙ simp append-assoc
 
@@ -89,7 +89,7 @@ list-blind skips from from' b = refl
 
 -- ---- DEMAND 3
 pub demand-3 : Demand-3
-unfolding bytes-of moved-down moved-up PairFine walk
+unfolding byte-length moved-down moved-up PairFine walk
 demand-3 bs skips n m h t a b z =
     let (w, (fb, fa), next) = swapped-walk (those skips) (list-blind skips) n m t a b (z .first-block) (z .second-block) (z .first-quiet)
     (z .second-quiet) (z .aligned) bs h (z .meets) (z .clear) in

@@ -9,13 +9,13 @@ use Rattle.bitcode.specs.declared.ScalarOperand.the-variants.{Literal, Fixed, V
 use Rattle.bitcode.specs.declared.Signature.{Signature}
 use Rattle.bitcode.specs.Scalar.{ascii, value}
 use Rattle.bitcode.specs.Header.{word, wrapped, signature}
-use Rattle.abbrev.specs.Abbrev.{blob, array, abbreviation, width, kind, operand, element, also, rest-of, operands, define, number-of, lookup}
+use Rattle.abbrev.specs.Abbrev.{blob, array, abbreviation, width, kind, operand, element, also, rest-of, operands, define, number-of, look-up}
 use Rattle.abbrev.specs.BlockInfo.{shared, shared-for, every, or-else, readable, chosen, info-definition, set-bid, letters, block-name, record-name, info-record, info-numbered, info-item, info-on, info}
 use Rattle.walk.specs.Record.{no-load, list-load, blob-load, a-record, stored, values, repeated, octets, bytes-if, bytes, payload-part, scalar-part, unabbreviated, array-kind, rest, load-list, record-list}
-use Rattle.walk.specs.Piece.{head, Piece, the-record, definition, blockinfo, skipped, block, done, _then_, Event, enter, skip, leave, record-event, record-of, entering, skipping, leaving, events, all-events, count, counts, store, all-store, added, all-added, own, after, entered}
+use Rattle.walk.specs.Piece.{head, Piece, the-record, definition, blockinfo, skipped, block, done, _then_, Event, enter, skip, leave, record-event, record-of, entering, skipping, leaving, events, all-events, counted, all-counted, store, all-store, added, all-added, own, after, entered}
 use Rattle.walk.specs.Item.{heading, used, begun, begin, event-room, leave-room, fits, finish, at-end, opening, within, body-of, complete, item, going-on, items, nested}
 use Rattle.walk.specs.Walk.{top-level, start, top-items, Outcome, denied, accepted, outcome, walk-stream, walk-by, listed, those, walk}
-use Rattle.exchange.specs.Spot.{Spot, here as at-spot, later, inside, plug, IsBlock, Quiet, Quiets, from-of, head-end, to-of}
+use Rattle.exchange.specs.Spot.{Spot, right-here, later, inside, plug, IsBlock, Quiet, Quiets, from-of, head-end, to-of}
 use Rattle.exchange.specs.Input.{exchange, base-of, exchanged}
 use Rattle.exchange.specs.Demand3.{Exchanged}
 use Rattle.exchange.proofs.Demand3.{demand-3}
@@ -47,7 +47,7 @@ flat-second = block 224 (head 10 4 36 4) (_then_ (the-record 288 10 3 (a-record 
 
 -- behind them: a record of code 3 with the operand 9
 flat-spot : Spot
-flat-spot = at-spot (_then_ (the-record 320 4294967295 4 (a-record 3 (9 ∷ []) no-load)) (done 340))
+flat-spot = right-here (_then_ (the-record 320 4294967295 4 (a-record 3 (9 ∷ []) no-load)) (done 340))
 
 flat-swapped : List Event
 flat-swapped =
@@ -92,7 +92,7 @@ deep-spot =
     (inside 128 (head 8 3 24 52)
     (later (definition (abbreviation (Literal 4 ∷ []) blob))
     (later (the-record 213 8 0 (a-record 4 [] (blob-load 28 (0x61 ∷ 0x62 ∷ []))))
-    (at-spot (_then_ (the-record 576 8 3 (a-record 1 (9 ∷ []) no-load)) (done 597)))))
+    (right-here (_then_ (the-record 576 8 3 (a-record 1 (9 ∷ []) no-load)) (done 597)))))
     (done 608))
 
 deep-swapped : List Event
@@ -112,10 +112,10 @@ evaluated :
 unfolding flat flat-header flat-first flat-second flat-spot flat-swapped deep deep-skips deep-header deep-first deep-second deep-spot deep-swapped
     shown plug exchanged base-of exchange from-of to-of head-end onward _>>=_ give stop require if_then_else_ here turns at-place placed
     bit field limit field-at reach read align chunks vbr ends-at ascii value word wrapped signature
-    width kind operand element also rest-of operands define number-of lookup
+    width kind operand element also rest-of operands define number-of look-up
     shared-for every or-else readable chosen info-definition set-bid letters block-name record-name info-record info-numbered info-item info-on info
     stored values repeated octets bytes-if bytes payload-part scalar-part unabbreviated array-kind rest load-list record-list
-    record-of entering skipping leaving events all-events count counts store all-store added all-added own after entered
+    record-of entering skipping leaving events all-events counted all-counted store all-store added all-added own after entered
     heading used begun begin event-room leave-room fits finish at-end opening within body-of complete item going-on items nested
     top-level start top-items outcome walk-stream walk-by listed those walk
 evaluated = (refl, refl, refl, refl)

@@ -11,7 +11,7 @@ use borrow.Author.Tests.{leb-true, leb-false, le-leb}
 use Rattle.terms.specs.Refusals.{Refusal}
 use Rattle.bits.specs.Reader.{Reader, _>>=_, give, stop, placed}
 use Rattle.bits.specs.Bits.{limit, ends-at}
-use Rattle.walk.specs.Piece.{Head, head, Piece, the-record, definition, blockinfo, skipped, block, Pieces, done, _then_, count, counts, store, all-store, State, after, entered}
+use Rattle.walk.specs.Piece.{Head, head, Piece, the-record, definition, blockinfo, skipped, block, Pieces, done, _then_, counted, all-counted, store, all-store, State, after, entered}
 use Rattle.walk.specs.Item.{Context, Begun, closing, heads, defines, records, heading, used, begun, begin, Opening, ended, defined, recorded, headed, event-room, leave-room, fits, finish, at-end, opening, Pass, Sub, body-of, complete, item, going-on, items, nested}
 use Rattle.walk.proofs.Answers.{PartFits, tail, top-ends, size-of, Takes, Inner, Holds}
 use Rattle.exchange.proofs.Shift.{mv, Wants, Began, Stands, Headed, move-record, move-part, move-head, move-begun, PartFine, HeadFine, Fitting, Front, FrontAsks, Asks, Open, Fine, Fines, Made, move-piece, move-pieces, move-opening, move-option, store-move, count-move, Like, after-like, entered-like}
@@ -155,7 +155,7 @@ module _ {s s' : List ℕ} {lo hi up down : ℕ} {win : Window s s' lo hi up dow
       → lo ≤ from → from < p
       → Runs win e e' p (Unit {0}) (λ x q. Takes st x × Began x from q × (q ≡ p + 8 * size-of h) × Fine up down og oo x) (Takes st')
       (move-piece up down og oo) (body-of sub skips from st h) (body-of sub' skips' (mv up down from) st' (move-head up down h))
-  unfolding body-of event-room move-head Headed Fitting Fine HeadFine _>>=_ give move-piece Takes Began size-of Inner count store
+  unfolding body-of event-room move-head Headed Fitting Fine HeadFine _>>=_ give move-piece Takes Began size-of Inner counted store
   body-moves r {skips} {skips'} ps {e} {e'} {p} t h from (head b w at n) {st} {st'} l (z₀, z₁, z₂, z₃) f g₀ g =
       branch t _ _ _ _ _
       (rw (l .l-shareds) (
@@ -175,7 +175,7 @@ module _ {s s' : List ℕ} {lo hi up down : ℕ} {win : Window s s' lo hi up dow
       → Open up down og oo (limit s e) top st p₀ o p
       → Runs win e e' p (Asks up down (limit s' e') top st' o) (Made up down og oo (limit s e) top st p₀) (Wants top st')
       (move-option up down og oo) (complete sub skips st o) (complete sub' skips' st' (move-opening up down og oo o))
-  unfolding complete Open Asks Made Wants Fine move-opening move-option move-piece give _>>=_ Takes Began count store
+  unfolding complete Open Asks Made Wants Fine move-opening move-option move-piece give _>>=_ Takes Began counted store
   complete-moves r ps x h top p₀ h₀ l ended z = giving nothing z (λ v. v)
   complete-moves r ps x h top p₀ h₀ l (defined a) z = giving (some (definition a)) (z .0, z .1, omega arith, tt, tt) (λ v. tt)
   complete-moves r ps x h top p₀ h₀ l (recorded from b first y) z =
@@ -201,7 +201,7 @@ module _ {s s' : List ℕ} {lo hi up down : ℕ} {win : Window s s' lo hi up dow
       (Holds top (after (move-piece up down og oo y) st')) (move-pieces up down og oo) (m y) (m' (move-piece up down og oo y)))
       → Runs win e e' p (Wants top st' x) (λ xs _. Holds top st xs × Fines up down og oo xs) (Holds top st') (move-pieces up down og oo)
       (going-on p₀ x m) (going-on (mv up down p₀) (move-option up down og oo x) m')
-  unfolding going-on _>>=_ give Made Wants Holds Fines Takes after move-option move-pieces counts all-store
+  unfolding going-on _>>=_ give Made Wants Holds Fines Takes after move-option move-pieces all-counted all-store
   going-moves t h top nothing p₀ h₀ l k m m' w = giving (done p₀) (omega arith, omega arith) (λ v. omega arith)
   going-moves t h top (some x) p₀ h₀ l k m m' w = on _ (w x) (λ xs q g z.
       giving (_then_ x xs) (omega (arith, k .2, length-append (store x) (all-store xs)), (k .4, z .1))

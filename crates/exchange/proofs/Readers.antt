@@ -14,7 +14,7 @@ use Rattle.bits.proofs.Laws.{between}
 use Rattle.bitcode.specs.declared.ScalarOperand.{ScalarOperand}
 use Rattle.bitcode.specs.declared.ScalarOperand.the-variants.{Literal, Fixed, Vbr, Char6}
 use Rattle.bitcode.specs.Scalar.{value}
-use Rattle.abbrev.specs.Abbrev.{Payload, none, blob, array, Abbrev, abbreviation, Operand, scalar, is-array, is-blob, width, kind, operand, element, rest-of, operands, define, number-of, lookup}
+use Rattle.abbrev.specs.Abbrev.{Payload, none, blob, array, Abbrev, abbreviation, Operand, scalar, is-array, is-blob, width, kind, operand, element, rest-of, operands, define, number-of, look-up}
 use Rattle.abbrev.specs.BlockInfo.{Shared, Hides, every, or-else, readable, chosen, info-definition, set-bid, letters, block-name, record-name, info-record, InfoItem, info-end, info-adds, info-now, info-numbered, info-item, info-on, info}
 use Rattle.walk.specs.Record.{blob-load, a-record, stored, values, repeated, octets, bytes-if, bytes, Part, whole, listing, blobbing, payload-part, scalar-part, unabbreviated, rest, load-list, record-list}
 use Rattle.walk.proofs.Answers.{PartFits}
@@ -131,8 +131,8 @@ module _ {s s' : List ℕ} {lo hi up down : ℕ} {win : Window s s' lo hi up dow
   numbers-at t h n = so _ (requires t _ _ _) (λ _ q g z. knows (reads-at t (omega arith) n) (λ _ r _ w. omega arith))
 
   pub lookup-moves : {e e' p : ℕ} → Ends win e e' → (r r' : No) (i : ℕ) (l : List Abbrev)
-      → Runs win e e' p (Unit {0}) any free same (lookup r i l) (lookup r' i l)
-  unfolding lookup give stop
+      → Runs win e e' p (Unit {0}) any free same (look-up r i l) (look-up r' i l)
+  unfolding look-up give stop
   lookup-moves t r r' i [] = stops _
   lookup-moves t r r' zero (a ∷ l) = gives _
   lookup-moves t r r' (suc i) (a ∷ l) = lookup-moves t r r' i l

@@ -10,7 +10,7 @@ use Rattle.bitcode.specs.declared.ScalarOperand.{ScalarOperand}
 use Rattle.bitcode.specs.declared.ScalarOperand.the-variants.{Literal, Fixed, Vbr, Char6}
 use Rattle.abbrev.specs.BlockInfo.{shared-for}
 use Rattle.walk.specs.Record.{Load, no-load, list-load, blob-load, Record, a-record, Part, whole, listing, blobbing, array-kind, load-list, record-list, load-blob, record-blob}
-use Rattle.walk.specs.Piece.{Head, head, Piece, the-record, definition, blockinfo, skipped, block, Pieces, done, _then_, count, counts, store, all-store, blobs, all-blobs, added, all-added, own, State, after, entered}
+use Rattle.walk.specs.Piece.{Head, head, Piece, the-record, definition, blockinfo, skipped, block, Pieces, done, _then_, counted, all-counted, store, all-store, blobs, all-blobs, added, all-added, own, State, after, entered}
 use Rattle.walk.specs.Item.{Begun, closing, heads, defines, records, Opening, ended, defined, recorded, headed}
 use Rattle.walk.proofs.Answers.{PartFits, tail, Takes}
 
@@ -237,16 +237,16 @@ module _ (up down : ℕ) where
     own-move (block from h inner) = refl
 
     mutual
-      unfolding count counts move-piece move-pieces
+      unfolding counted all-counted move-piece move-pieces
 
-      pub count-move : (x : Piece) → count (move-piece x) ≡ count x
+      pub count-move : (x : Piece) → counted (move-piece x) ≡ counted x
       count-move (the-record from b first r) = refl
       count-move (definition a) = refl
       count-move (blockinfo from h sh) = refl
       count-move (skipped from h) = refl
       count-move (block from h inner) = ap (λ n. n + 2) (counts-move inner)
 
-      pub counts-move : (xs : Pieces) → counts (move-pieces xs) ≡ counts xs
+      pub counts-move : (xs : Pieces) → all-counted (move-pieces xs) ≡ all-counted xs
       counts-move (done end) = refl
       counts-move (_then_ x xs) = ap₂ (λ a b. a + b) (count-move x) (counts-move xs)
 

@@ -11,10 +11,10 @@ use lib.Dec.{ltb, eqb}
 use borrow.Author.Tests.{lt-leb}
 use Rattle.bits.specs.Reader.{Answer, got}
 use Rattle.bits.specs.Bits.{limit, ends-at}
-use Rattle.walk.specs.Piece.{Head, head, Piece, the-record, definition, blockinfo, skipped, block, Pieces, done, _then_, count, counts, store, all-store, added, all-added, own, State, after, entered}
+use Rattle.walk.specs.Piece.{Head, head, Piece, the-record, definition, blockinfo, skipped, block, Pieces, done, _then_, counted, all-counted, store, all-store, added, all-added, own, State, after, entered}
 use Rattle.walk.specs.Item.{Context, headed, opening, Pass, nested}
 use Rattle.walk.proofs.Answers.{size-of, Takes}
-use Rattle.exchange.specs.Spot.{Spot, here, later, inside, plug, IsBlock, Quiet, Quiets, from-of, head-end, to-of}
+use Rattle.exchange.specs.Spot.{Spot, right-here, later, inside, plug, IsBlock, Quiet, Quiets, from-of, head-end, to-of}
 use Rattle.exchange.proofs.Shift.{Began, Headed, move-head, Fitting, Asks, Fine, move-piece, move-opening, store-move, added-move, own-move, count-move, Like}
 use Rattle.exchange.proofs.Law.{Window, Ends, Passes, taken, inner-limit}
 use Rattle.exchange.proofs.Moves.{headed-le, opening-moves, body-moves, nested-moves}
@@ -167,11 +167,11 @@ wider h g v = record {
 pub bounds : (skips : Pass) (s : List ℕ) (t : Spot) (a b : Piece) → IsBlock a → IsBlock b → (d k : ℕ) (c : Context) (st : State) (e p q : ℕ)
     → many skips d k c st s e p ≡ got (plug t a b) q → Bounds p q a b
 unfolding plug
-bounds skips s (here xs) a b ia ib d zero c st e p q g = absurd (items-none (nested d skips) skips c st s e p q _ g)
-bounds skips s (here xs) a b ia ib d (suc zero) c st e p q g =
+bounds skips s (right-here xs) a b ia ib d zero c st e p q g = absurd (items-none (nested d skips) skips c st s e p q _ g)
+bounds skips s (right-here xs) a b ia ib d (suc zero) c st e p q g =
     let (r, z₁, z₂) = items-apart (nested d skips) skips c st s e zero p q a (_then_ b xs) g in
     absurd (items-none (nested d skips) skips c (after a st) s e r q _ z₂)
-bounds skips s (here xs) a b ia ib d (suc (suc k)) c st e p q g =
+bounds skips s (right-here xs) a b ia ib d (suc (suc k)) c st e p q g =
     let (r, z₁, z₂) = items-apart (nested d skips) skips c st s e (suc k) p q a (_then_ b xs) g in
     let (r₂, z₃, z₄) = items-apart (nested d skips) skips c (after a st) s e k r q b xs z₂ in
     let u = item-facts skips s d c st e p r a z₁ in
@@ -246,10 +246,10 @@ module _ (a b : Piece) (ia : IsBlock a) (ib : IsBlock b) (qa : Quiet a) (qb : Qu
   own-b : own new-b ≡ []
   own-b = own-move 0 (j - i) 0 (length (store a)) b ∙ own-block b ib
 
-  count-a : count new-a ≡ count a
+  count-a : counted new-a ≡ counted a
   count-a = count-move (k - j) 0 (length (store b)) 0 a
 
-  count-b : count new-b ≡ count b
+  count-b : counted new-b ≡ counted b
   count-b = count-move 0 (j - i) 0 (length (store a)) b
 
   store-a : store new-a ≡ store a
@@ -291,28 +291,28 @@ module _ (a b : Piece) (ia : IsBlock a) (ib : IsBlock b) (qa : Quiet a) (qb : Qu
       (omega (arith, ap length store-a, ap length store-b))
 
   -- ---- around them nothing changes but their order
-  same-counts : (t : Spot) → counts (plug t new-b new-a) ≡ counts (plug t a b)
-  unfolding plug counts count
-  same-counts (here xs) = omega (arith, count-a, count-b)
-  same-counts (later x t) = ap (λ n. count x + n) (same-counts t)
+  same-counts : (t : Spot) → all-counted (plug t new-b new-a) ≡ all-counted (plug t a b)
+  unfolding plug all-counted counted
+  same-counts (right-here xs) = omega (arith, count-a, count-b)
+  same-counts (later x t) = ap (λ n. counted x + n) (same-counts t)
   same-counts (inside from h t xs) = omega (arith, same-counts t)
 
   same-store : (t : Spot) → length (all-store (plug t new-b new-a)) ≡ length (all-store (plug t a b))
   unfolding plug all-store store
-  same-store (here xs) = simp length-append (omega (arith, ap length store-a, ap length store-b))
+  same-store (right-here xs) = simp length-append (omega (arith, ap length store-a, ap length store-b))
   same-store (later x t) = length-append (store x) _ ∙ ap (λ n. length (store x) + n) (same-store t) ∙ sym (length-append (store x) _)
   same-store (inside from h t xs) = simp length-append (omega (arith, same-store t))
 
   same-added : (t : Spot) → all-added (plug t new-b new-a) ≡ all-added (plug t a b)
   unfolding plug all-added added
-  same-added (here xs) = ap₂ (λ x y. x ++ (y ++ all-added xs)) added-b added-a
+  same-added (right-here xs) = ap₂ (λ x y. x ++ (y ++ all-added xs)) added-b added-a
       ∙ sym (ap₂ (λ x y. x ++ (y ++ all-added xs)) (added-quiet a qa) (added-quiet b qb))
   same-added (later x t) = ap (λ y. added x ++ y) (same-added t)
   same-added (inside from h t xs) = ap (λ y. y ++ all-added xs) (same-added t)
 
   around : (from : ℕ) (h : Head) (t : Spot) (st : State) → after (block from h (plug t a b)) st ≡ after
       (block from h (plug t new-b new-a)) st
-  unfolding after added own count store
+  unfolding after added own counted store
   around from h t st = state-path
       (ap (λ y. st .shareds ++ y) (sym (same-added t)))
       refl refl
@@ -378,11 +378,11 @@ module _ (a b : Piece) (ia : IsBlock a) (ib : IsBlock b) (qa : Quiet a) (qb : Qu
     pub swap-items : (t : Spot) (d n : ℕ) (c : Context) (st : State) (e p q : ℕ) → many skips d n c st s e p ≡ got (plug t a b) q
         → (many skips d n c st s' e p ≡ got (plug t new-b new-a) q) × BothFine
     unfolding plug
-    swap-items (here xs) d zero c st e p q g = absurd (items-none (nested d skips) skips c st s e p q _ g)
-    swap-items (here xs) d (suc zero) c st e p q g =
+    swap-items (right-here xs) d zero c st e p q g = absurd (items-none (nested d skips) skips c st s e p q _ g)
+    swap-items (right-here xs) d (suc zero) c st e p q g =
         let (r, z₁, z₂) = items-apart (nested d skips) skips c st s e zero p q a (_then_ b xs) g in
         absurd (items-none (nested d skips) skips c (after a st) s e r q _ z₂)
-    swap-items (here xs) d (suc (suc n)) c st e p q g =
+    swap-items (right-here xs) d (suc (suc n)) c st e p q g =
         let (r, z₁, z₂) = items-apart (nested d skips) skips c st s e (suc n) p q a (_then_ b xs) g in
         let (r₂, z₃, z₄) = items-apart (nested d skips) skips c (after a st) s e n r q b xs z₂ in
         let (x₁, x₂, x₃) = began-block a p r ia (item-facts skips s d c st e p r a z₁ .began) in

@@ -10,7 +10,7 @@ use Rattle.bitcode.specs.declared.Signature.{Signature}
 use Rattle.bitcode.specs.Header.{word, wrapper-magic}
 use Rattle.walk.specs.Piece.{Piece, Pieces, Event, enter, skip, leave, record-event, events, all-events, store, all-store, blobs, all-blobs}
 use Rattle.walk.specs.Walk.{accepted, walk}
-use Rattle.exchange.specs.Spot.{Spot, plug, IsBlock, Quiet, from-of, bytes-of, front, back, front-store, back-store, front-blobs, back-blobs}
+use Rattle.exchange.specs.Spot.{Spot, plug, IsBlock, Quiet, from-of, byte-length, front, back, front-store, back-store, front-blobs, back-blobs}
 use Rattle.exchange.specs.Input.{base-of, exchanged}
 
 -- ---- "only byte places and operand store places move": two events alike but for byte places, which go up by `up` and down by `down`, and operand
@@ -57,8 +57,8 @@ pub record Exchanged (bs skips : List ℕ) (n m : ℕ) (h : Signature) (t : Spot
   pub is : all-events new ≡ front t ++ second ++ first ++ back t
   -- "Within a group only byte places and operand store places move": the first's go up by the second's bytes and operands, the second's go down by
   -- the first's
-  pub first-moves : Each (Shifted (bytes-of b) 0 (length (store b)) 0) (events a) first
-  pub second-moves : Each (Shifted 0 (bytes-of a) 0 (length (store a))) (events b) second
+  pub first-moves : Each (Shifted (byte-length b) 0 (length (store b)) 0) (events a) first
+  pub second-moves : Each (Shifted 0 (byte-length a) 0 (length (store a))) (events b) second
   -- "operand and blob contents stay": they change places with their groups
   pub store-was : all-store (plug t a b) ≡ front-store t ++ store a ++ store b ++ back-store t
   pub store-is : all-store new ≡ front-store t ++ store b ++ store a ++ back-store t

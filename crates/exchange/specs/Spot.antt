@@ -4,16 +4,16 @@ use mathlib.Core.List.{List, [], _∷_, _++_}
 use Prim.Native.Nat.{ℕ, _+_, _-_, _*_, _/_}
 use Rattle.walk.specs.Piece.{Head, head, Piece, the-record, definition, blockinfo, skipped, block, Pieces, done, _then_, Event, entering, leaving, events, all-events, store, all-store, blobs, all-blobs}
 
--- where two pieces stand: here, with the pieces behind them; later, behind a piece; or inside a block, with the bit where it began, its head, and the
+-- where two pieces stand: right here, with the pieces behind them; later, behind a piece; or inside a block, with the bit where it began, its head, and the
 -- pieces behind it
 pub data Spot : Type 0 where
-  here : Pieces → Spot
+  right-here : Pieces → Spot
   later : Piece → Spot → Spot
   inside : ℕ → Head → Spot → Pieces → Spot
 
 -- what was met, with a and, directly behind it in the same parent, b at the spot
 unfoldable pub plug : Spot → Piece → Piece → Pieces
-plug (here xs) a b = _then_ a (_then_ b xs)
+plug (right-here xs) a b = _then_ a (_then_ b xs)
 plug (later x t) a b = _then_ x (plug t a b)
 plug (inside from h t xs) a b = _then_ (block from h (plug t a b)) xs
 
@@ -57,36 +57,36 @@ to-of (skipped from h) = head-end h
 to-of (block from h inner) = head-end h
 
 -- how many bytes it takes
-unfoldable pub bytes-of : Piece → ℕ
-bytes-of x = (to-of x - from-of x) / 8
+unfoldable pub byte-length : Piece → ℕ
+byte-length x = (to-of x - from-of x) / 8
 
 -- ---- what stands before the two and behind them: events, operands in the order of the store, contents of blobs. The two have no part in it
 unfoldable pub front : Spot → List Event
-front (here xs) = []
+front (right-here xs) = []
 front (later x t) = events x ++ front t
 front (inside from h t xs) = entering h ∷ front t
 
 unfoldable pub back : Spot → List Event
-back (here xs) = all-events xs
+back (right-here xs) = all-events xs
 back (later x t) = back t
 back (inside from h t xs) = back t ++ leaving h ∷ [] ++ all-events xs
 
 unfoldable pub front-store : Spot → List ℕ
-front-store (here xs) = []
+front-store (right-here xs) = []
 front-store (later x t) = store x ++ front-store t
 front-store (inside from h t xs) = front-store t
 
 unfoldable pub back-store : Spot → List ℕ
-back-store (here xs) = all-store xs
+back-store (right-here xs) = all-store xs
 back-store (later x t) = back-store t
 back-store (inside from h t xs) = back-store t ++ all-store xs
 
 unfoldable pub front-blobs : Spot → List (List ℕ)
-front-blobs (here xs) = []
+front-blobs (right-here xs) = []
 front-blobs (later x t) = blobs x ++ front-blobs t
 front-blobs (inside from h t xs) = front-blobs t
 
 unfoldable pub back-blobs : Spot → List (List ℕ)
-back-blobs (here xs) = all-blobs xs
+back-blobs (right-here xs) = all-blobs xs
 back-blobs (later x t) = back-blobs t
 back-blobs (inside from h t xs) = back-blobs t ++ all-blobs xs

@@ -19,7 +19,7 @@ use Rattle.bitcode.proofs.Answers.{scalars}
 use Rattle.abbrev.specs.Abbrev.{Payload, none, blob, array, Abbrev, abbreviation}
 use Rattle.abbrev.proofs.Answers.{definitions, numbers, lookups, infos}
 use Rattle.walk.specs.Record.{stored, values, repeated, bytes-if, bytes, Part, whole, listing, blobbing, payload-part, scalar-part, unabbreviated, rest, load-list, record-list}
-use Rattle.walk.specs.Piece.{Head, head, Piece, Pieces, count, counts, store, all-store, State, after, entered}
+use Rattle.walk.specs.Piece.{Head, head, Piece, Pieces, counted, all-counted, store, all-store, State, after, entered}
 use Rattle.walk.specs.Item.{Context, Begun, closing, heads, defines, records, heading, used, begun, begin, Opening, ended, defined, recorded, headed, event-room, leave-room, fits, finish, at-end, opening, within, Pass, Sub, body-of, complete, item, going-on, items, nested}
 
 -- ---- records: no more operands than there is room for
@@ -170,10 +170,10 @@ withins {R} {A} n {m} {s} {e} {p} {K} {Q} h x = record { has = go (m s (p / 8 + 
 
 -- what a piece takes of the rooms; what a block holds leaves room for its enter and leave events
 unfoldable pub Takes : State → Piece → Type 0
-Takes st x = (count x ≤ st .room) × (length (store x) ≤ st .left)
+Takes st x = (counted x ≤ st .room) × (length (store x) ≤ st .left)
 
 unfoldable pub Inner : State → Pieces → Type 0
-Inner st xs = (counts xs + 2 ≤ st .room) × (length (all-store xs) ≤ st .left)
+Inner st xs = (all-counted xs + 2 ≤ st .room) × (length (all-store xs) ≤ st .left)
 
 abbrev pub SubFits : Sub → Type 0
 SubFits sub =
@@ -181,7 +181,7 @@ SubFits sub =
 
 bodies : (sub : Sub) (skips : Pass) (from : ℕ) (st : State) (h : Head) {s : List ℕ} {e p : ℕ} → SubFits sub → p + 8 * size-of h ≤ limit s e
     → Answers (body-of sub skips from st h) s e p (λ x q. Takes st x) KnownAt
-unfolding body-of Takes Inner count store size-of
+unfolding body-of Takes Inner counted store size-of
 bodies sub skips from st (head b w at n) y h =
     branch (eqb b 0)
     (λ i. on _ (withins n {K = λ xs. Unit {0}} h (turned (λ k. weaker (infos k w nothing (length (st .shareds)) _ _ _) (λ xs q l g. tt)))) (λ xs q l g. gives _ (omega arith, omega arith)))
@@ -196,7 +196,7 @@ ItemFits top st p (some x) q = (p < q) × Takes st x
 
 completes : (sub : Sub) (skips : Pass) (top : Bool) (st : State) (o : Opening) {s : List ℕ} {e q : ℕ} (p : ℕ) → SubFits sub → OpenFits top st (limit s e) p o q
     → Answers (complete sub skips st o) s e q (ItemFits top st p) KnownAt
-unfolding complete OpenFits ItemFits Takes count store
+unfolding complete OpenFits ItemFits Takes counted store
 completes sub skips top st ended p y h = gives _ h
 completes sub skips top st (defined a) p y h = gives _ (h, (omega arith, omega arith))
 completes sub skips top st (recorded from b first r) p y h = gives _ (h .0, (omega (arith, h .1), h .2))
@@ -208,11 +208,11 @@ unfolding item
 item-answers sub skips c st {p = p} y = on _ (openings c st) (λ o q l h. completes sub skips (c .top) st o p y h)
 
 unfoldable pub Holds : Bool → State → Pieces → Type 0
-Holds top st xs = (counts xs + tail top ≤ st .room) × (length (all-store xs) ≤ st .left)
+Holds top st xs = (all-counted xs + tail top ≤ st .room) × (length (all-store xs) ≤ st .left)
 
 goings : (from p : ℕ) (top : Bool) (st : State) (x : Option Piece) (more : Piece → Reader Refusal Pieces) {s : List ℕ} {e q : ℕ} → ItemFits top st p x q
     → ((y : Piece) → Answers (more y) s e q (λ xs r. Holds top (after y st) xs) KnownAt) → Answers (going-on from x more) s e q (λ xs r. Holds top st xs) KnownAt
-unfolding going-on ItemFits Holds Takes counts all-store after
+unfolding going-on ItemFits Holds Takes all-counted all-store after
 goings from p top st nothing more h y = gives _ (omega arith, omega arith)
 goings from p top st (some x) more h y =
     on _ (y x) (λ xs r l g. gives _ (omega (arith, g .0, h .1 .0), rw (length-append (store x) (all-store xs)) (omega (arith, g .1, h .1 .1))))

@@ -14,23 +14,23 @@ use Rattle.bits.specs.Reader.{Answer, got, refused, if_then_else_}
 use Rattle.bits.proofs.Answers.{walk-number, KnownAt, Has, turned}
 use Rattle.bitcode.specs.declared.Signature.{Signature}
 use Rattle.bitcode.specs.Header.{Opened, unsigned, opened, signature}
-use Rattle.walk.specs.Piece.{Event, enter, skip, leave, record-event, Piece, the-record, definition, blockinfo, skipped, block, Pieces, done, _then_, leaving, events, all-events, count, counts, all-store}
+use Rattle.walk.specs.Piece.{Event, enter, skip, leave, record-event, Piece, the-record, definition, blockinfo, skipped, block, Pieces, done, _then_, leaving, events, all-events, counted, all-counted, all-store}
 use Rattle.walk.specs.Item.{Pass, nested}
 use Rattle.walk.specs.Walk.{top-level, start, top-items, Outcome, denied, accepted, outcome, walk-stream, walk-by, those, walk, entry, entries, filled, Result, no-header, result, walked}
 use Rattle.walk.proofs.Answers.{tail, Holds, item-runs, nesteds}
 
--- ---- `count` counts the events
+-- ---- `counted` counts the events
 mutual
-  unfolding events all-events count counts
+  unfolding events all-events counted all-counted
 
-  pub count-events : (x : Piece) → length (events x) ≡ count x
+  pub count-events : (x : Piece) → length (events x) ≡ counted x
   count-events (the-record from b first r) = refl
   count-events (definition a) = refl
   count-events (blockinfo from h sh) = refl
   count-events (skipped from h) = refl
   count-events (block from h inner) = omega (arith, length-append (all-events inner) (leaving h ∷ []), counts-events inner)
 
-  pub counts-events : (xs : Pieces) → length (all-events xs) ≡ counts xs
+  pub counts-events : (xs : Pieces) → length (all-events xs) ≡ all-counted xs
   counts-events (done end) = refl
   counts-events (_then_ x xs) = omega (arith, length-append (events x) (all-events xs), count-events x, counts-events xs)
 
@@ -56,7 +56,7 @@ filled-length n xs h =
 
 -- ---- every outcome
 unfoldable pub Fits : ℕ → ℕ → Outcome → Type 0
-Fits n m (accepted h xs) = (event-size * counts xs ≤ n) × (length (all-store xs) ≤ m)
+Fits n m (accepted h xs) = (event-size * all-counted xs ≤ n) × (length (all-store xs) ≤ m)
 Fits n m (denied r) = KnownAt r
 
 outcome-fits : (n m p : ℕ) (s : List ℕ) (h : Signature) (x : Answer Refusal Pieces) → Has s (length s) p (λ xs q. Holds true (start n m) xs) KnownAt x → Fits n m (outcome h x)

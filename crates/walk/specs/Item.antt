@@ -8,7 +8,7 @@ use Rattle.terms.specs.Limits.{max-local}
 use Rattle.terms.specs.Refusals.{No, Refusal, at-bit, buffer-overflow, no-such-abbrev, missing-end-block, too-deep, no-abbreviation-room, no-event-room, block-number-too-large}
 use Rattle.bits.specs.Reader.{Reader, got, onward, _>>=_, _>>_, give, stop, require, if_then_else_, here, turns, placed}
 use Rattle.bits.specs.Bits.{limit, read, align, vbr, ends-at}
-use Rattle.abbrev.specs.Abbrev.{Abbrev, define, number-of, lookup}
+use Rattle.abbrev.specs.Abbrev.{Abbrev, define, number-of, look-up}
 use Rattle.abbrev.specs.BlockInfo.{info}
 use Rattle.walk.specs.Record.{Record, Part, scalar-part, unabbreviated, rest}
 use Rattle.walk.specs.Piece.{Head, head, Piece, the-record, definition, blockinfo, skipped, block, Pieces, done, _then_, State, after, entered}
@@ -40,7 +40,7 @@ heading = do
 -- "4 and up: lookup (8)"
 unfoldable pub used : Context → State → ℕ → Reader No Part
 used c st n = do
-  a ← lookup (no-such-abbrev n (c .number)) (n - 4) (st .mine)
+  a ← look-up (no-such-abbrev n (c .number)) (n - 4) (st .mine)
   scalar-part (st .left) a
 
 -- "0: align, end"; 1 a block; "2: local definition"; 3 an unabbreviated record; 4 and up an abbreviated one

@@ -62,16 +62,16 @@ unfoldable mutual
 
 -- how many they are
 unfoldable mutual
-  pub count : Piece → ℕ
-  count (the-record from b first r) = 1
-  count (definition a) = 0
-  count (blockinfo from h sh) = 0
-  count (skipped from h) = 1
-  count (block from h inner) = counts inner + 2
+  pub counted : Piece → ℕ
+  counted (the-record from b first r) = 1
+  counted (definition a) = 0
+  counted (blockinfo from h sh) = 0
+  counted (skipped from h) = 1
+  counted (block from h inner) = all-counted inner + 2
 
-  pub counts : Pieces → ℕ
-  counts (done end) = 0
-  counts (_then_ x xs) = count x + counts xs
+  pub all-counted : Pieces → ℕ
+  all-counted (done end) = 0
+  all-counted (_then_ x xs) = counted x + all-counted xs
 
 -- ---- operands, in the order of the store
 unfoldable mutual
@@ -139,7 +139,7 @@ after x st = record {
   shareds = st .shareds ++ added x;
   mine = st .mine ++ own x;
   locals = st .locals + length (own x);
-  room = st .room - count x;
+  room = st .room - counted x;
   fill = st .fill + length (store x);
   left = st .left - length (store x);
 }

@@ -9,10 +9,10 @@ use Rattle.bits.specs.Reader.{Answer, got, refused, onward, _>>=_, give, stop, 
 use Rattle.bits.specs.Bits.{bit, field, limit, field-at, reach, read, align, chunks, vbr, ends-at, signed-of}
 use Rattle.bitcode.specs.Scalar.{ascii, value}
 use Rattle.bitcode.specs.Header.{word, wrapped, signature}
-use Rattle.abbrev.specs.Abbrev.{width, kind, operand, element, also, rest-of, operands, define, number-of, lookup}
+use Rattle.abbrev.specs.Abbrev.{width, kind, operand, element, also, rest-of, operands, define, number-of, look-up}
 use Rattle.abbrev.specs.BlockInfo.{shared-for, every, or-else, readable, chosen, info-definition, set-bid, letters, block-name, record-name, info-record, info-numbered, info-item, info-on, info}
 use Rattle.walk.specs.Record.{stored, values, repeated, octets, bytes-if, bytes, payload-part, scalar-part, unabbreviated, array-kind, rest, load-list, record-list}
-use Rattle.walk.specs.Piece.{record-of, entering, skipping, leaving, events, all-events, count, counts, store, all-store, added, all-added, own, after, entered}
+use Rattle.walk.specs.Piece.{record-of, entering, skipping, leaving, events, all-events, counted, all-counted, store, all-store, added, all-added, own, after, entered}
 use Rattle.walk.specs.Item.{heading, used, begun, begin, event-room, leave-room, fits, finish, at-end, opening, within, body-of, complete, item, going-on, items, nested}
 use Rattle.walk.specs.Walk.{top-level, start, top-items, outcome, walk-stream, walk-by, listed, those, walk, entry, entries, filled, Result, no-header, result, walked}
 
@@ -109,10 +109,10 @@ table =
 samples : map asked table ≡ map reply table
 unfolding table asked reply ask saw refused-empty accepted-bare accepted-dump onward _>>=_ give stop require if_then_else_ here turns at-place placed
     bit field limit field-at reach read align chunks vbr ends-at signed-of ascii value word wrapped signature
-    width kind operand element also rest-of operands define number-of lookup
+    width kind operand element also rest-of operands define number-of look-up
     shared-for every or-else readable chosen info-definition set-bid letters block-name record-name info-record info-numbered info-item info-on info
     stored values repeated octets bytes-if bytes payload-part scalar-part unabbreviated array-kind rest load-list record-list
-    record-of entering skipping leaving events all-events count counts store all-store added all-added own after entered
+    record-of entering skipping leaving events all-events counted all-counted store all-store added all-added own after entered
     heading used begun begin event-room leave-room fits finish at-end opening within body-of complete item going-on items nested
     top-level start top-items outcome walk-stream walk-by listed those walk entry entries filled result walked
 samples = refl
