@@ -1,1 +1,4 @@
 pub mod Answers
+pub mod Rows
+pub mod Held
+pub mod Infos

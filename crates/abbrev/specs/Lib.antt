@@ -1,2 +1,3 @@
 pub mod Abbrev
 pub mod BlockInfo
+pub mod Tables

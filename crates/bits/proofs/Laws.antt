@@ -193,7 +193,7 @@ module _ (lo n hi : ℕ) where
   within-range l h = simp (le-leb _ _ l, le-leb _ _ h)
 
 -- both of two tests
-and-true : (a b : Bool) → a && b ≡ true → (a ≡ true) × (b ≡ true)
+pub and-true : (a b : Bool) → a && b ≡ true → (a ≡ true) × (b ≡ true)
 and-true true true h = (refl, refl)
 and-true true false h = absurd (let z : _≡_ {A = ℕ} 0 1 = cc in omega arith)
 and-true false b h = absurd (let z : _≡_ {A = ℕ} 0 1 = cc in omega arith)

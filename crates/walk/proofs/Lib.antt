@@ -2,3 +2,10 @@ pub mod Blobs
 pub mod Answers
 pub mod Whole
 pub mod Turns
+pub mod Stores
+pub mod Runs
+pub mod Records
+pub mod Visits
+pub mod Items
+pub mod Outer
+pub mod Once

@@ -1,37 +1,25 @@
--- Enough turns are enough: how many turns `chunks`, `info` and `items` have doesn't matter once they exceed the bits left. So each loop is what one turn
--- of it says, then the loop again: what the loop of the code does. Assumes nothing.
+-- Enough turns are enough: how many turns `chunks` and `items` have doesn't matter once they exceed the bits left. So each loop is what one turn
+-- of it says, then the loop again: what the loop of the code does. (That of `info` is in the abbreviations' Infos.) Assumes nothing.
 use mathlib.Core.Path.{_≡_, refl, ap, _∙_, sym}
 use mathlib.Core.Bool.{Bool, true, false}
-use mathlib.Core.List.{List, _∷_}
+use mathlib.Core.List.{List}
 use mathlib.Core.Option.{Option, none as nothing, some}
-use Prim.Native.Nat.{ℕ, zero, suc, _+_, _-_, _*_, _<_}
+use Prim.Native.Nat.{ℕ, zero, suc, _-_, _*_, _<_}
 use native.Mathlib.Omega.{arith}
 use lib.ListN.{length}
 use lib.Dec.{ltb}
 use borrow.Author.Tests.{leb-false}
-use Rattle.terms.specs.Refusals.{No, no, Refusal, vbr-overflow}
-use Rattle.bits.specs.Reader.{Reader, Answer, got, refused, onward, _>>=_, give, if_then_else_, here, turns, at-place, placed}
+use Rattle.terms.specs.Refusals.{Refusal, vbr-overflow}
+use Rattle.bits.specs.Reader.{Reader, got, onward, _>>=_, give, if_then_else_, here, turns}
 use Rattle.bits.specs.Bits.{limit, read, chunks, ends-at}
-use Rattle.bits.proofs.Steps.{never, apart, passed, arms, got-value}
+use Rattle.bits.proofs.Steps.{apart, passed, arms, got-value}
 use Rattle.bits.proofs.Laws.{limit-in}
 use Rattle.bits.proofs.Vbr.{Ahead, read-ahead}
-use Rattle.bits.proofs.Answers.{when-got, requires, places}
-use Rattle.abbrev.specs.Abbrev.{number-of}
-use Rattle.abbrev.specs.BlockInfo.{Shared, every, InfoItem, info-end, info-adds, info-now, info-item, info-on, info}
-use Rattle.abbrev.proofs.Answers.{info-items}
+use Rattle.bits.proofs.Answers.{when-got, requires}
+use Rattle.abbrev.proofs.Infos.{same-rest}
 use Rattle.walk.specs.Piece.{Piece, Pieces, _then_, State, after}
 use Rattle.walk.specs.Item.{Context, Opening, ended, at-end, opening, Pass, Sub, complete, item, going-on, items}
 use Rattle.walk.proofs.Answers.{SubFits, ItemFits, item-answers}
-
--- two rests of a `do` block that agree on what the first part got
-same-rest : {R A B : Type 0} (m : Reader R A) (f g : A → Reader R B) (s : List ℕ) (e p : ℕ)
-    → ((a : A) (q : ℕ) → m s e p ≡ got a q → f a s e q ≡ g a s e q) → (m >>= f) s e p ≡ (m >>= g) s e p
-unfolding _>>=_ onward
-same-rest {R} {A} m f g s e p h = go (m s e p) h
-  where
-    go : (x : Answer R A) → ((a : A) (q : ℕ) → x ≡ got a q → f a s e q ≡ g a s e q) → onward x (λ a q. f a s e q) ≡ onward x (λ a q. g a s e q)
-    go (got a q) h = h a q refl
-    go (refused r) h = refl
 
 -- ---- VBR
 same-else : {R A : Type 0} (b : Bool) (x y z : Reader R A) (s : List ℕ) (e p : ℕ) → y s e p ≡ z s e p → (if b then x else y) s e p ≡ (if b then x else z) s e p
@@ -50,57 +38,6 @@ chunks-enough s e (suc k) (suc k') w shift acc p h h' =
     same-rest _ _ _ s e q (λ u r y.
     let t = when-got (requires {Q = λ _. Unit {0}} (ltb shift 64) vbr-overflow tt) y in
     same-else _ _ _ _ s e r (chunks-enough s e k k' w _ _ r (omega (arith, t .2)) (omega (arith, t .2)))))
-
--- ---- BLOCKINFO
--- an item begins before the end
-unplaced : {A : Type 0} (from : ℕ) (m : Reader No A) (s : List ℕ) (e p : ℕ) {a : A} {q : ℕ} → placed from m s e p ≡ got a q → m s e p ≡ got a q
-unfolding placed at-place
-unplaced {A} from m s e p {a} {q} z = go (m s e p) z
-  where
-    go : (x : Answer No A) → at-place from x ≡ got a q → x ≡ got a q
-    go (got b r) i = cc
-    go (refused (no n x y)) i = absurd (never i)
-
-module _ (s : List ℕ) (e w : ℕ) where
-  info-starts : (now : Option ℕ) (have p q : ℕ) (x : InfoItem) → info-item every w now have s e p ≡ got x q → p < limit s e
-  unfolding info-item number-of
-  info-starts now have p q x z =
-      let c = apart (number-of w) _ s e p z in
-      let a = read-ahead s e p w (c .0) (c .1) (passed _ _ s e p (c .2) .1) in
-      omega (arith, a .past, a .inside)
-
-  same-info : (x : InfoItem) (now : Option ℕ) (have q : ℕ) (f g : Option ℕ → ℕ → Reader Refusal (List Shared))
-      → ((b : Option ℕ) (n : ℕ) → f b n s e q ≡ g b n s e q) → info-on x now have f s e q ≡ info-on x now have g s e q
-  unfolding info-on _>>=_
-  same-info info-end now have q f g h = refl
-  same-info (info-adds x) now have q f g h = ap (λ v. onward v (λ xs q. give (x ∷ xs) s e q)) (h now (have + 1))
-  same-info (info-now b) now have q f g h = h b have
-
-  -- one turn, by the turns that are left
-  info-step : (k : ℕ) (now : Option ℕ) (have p : ℕ)
-      → info (suc k) w now have s e p ≡ (placed p (info-item every w now have) >>= (λ x. info-on x now have (info k w))) s e p
-  unfolding info here _>>=_ onward
-  info-step k now have p = refl
-
-  pub info-enough : (k k' : ℕ) (now : Option ℕ) (have p : ℕ) → limit s e - p < k → limit s e - p < k' → info k w now have s e p ≡ info k' w now have s e p
-  info-enough zero k' now have p h h' = absurd (omega arith)
-  info-enough (suc k) zero now have p h h' = absurd (omega arith)
-  info-enough (suc k) (suc k') now have p h h' =
-      info-step k now have p ∙ same-rest _ _ _ s e p (λ x q z.
-      let l = info-starts now have p q x (unplaced p _ s e p z) in
-      let a = when-got (places p (info-items w now have)) z in
-      same-info x now have q _ _ (λ b n. info-enough k k' b n q (omega (arith, a .2 .0)) (omega (arith, a .2 .0)))) ∙ sym (info-step k' now have p)
-
-  -- one turn, then the loop again
-  pub info-turn : (now : Option ℕ) (have p : ℕ)
-      → turns (λ k. info k w now have) s e p ≡ (placed p (info-item every w now have) >>= (λ x. info-on x now have (λ b n. turns (λ k. info k w b n)))) s e p
-  unfolding turns
-  info-turn now have p =
-      info-step (8 * length s) now have p ∙ same-rest _ _ _ s e p (λ x q z.
-      let l = info-starts now have p q x (unplaced p _ s e p z) in
-      let a = when-got (places p (info-items w now have)) z in
-      let i = limit-in s e in
-      same-info x now have q _ _ (λ b n. info-enough (8 * length s) (suc (8 * length s)) b n q (omega (arith, a .2 .0)) (omega (arith, a .2 .0))))
 
 -- ---- items
 module _ (sub : Sub) (skips : Pass) (c : Context) (s : List ℕ) (e : ℕ) where

@@ -3,3 +3,4 @@ pub mod Piece
 pub mod Item
 pub mod Walk
 pub mod Samples
+pub mod Contracts

@@ -1,0 +1,220 @@
+-- Records and heads, put together from their parts. A record is read in two parts by the definition, and as code, operands and payload by the code:
+-- both are one reader. Assumes nothing.
+use mathlib.Core.Path.{_≡_, refl, sym, ap, subst, fun-ext, _∙_}
+use mathlib.Core.Bool.{Bool, true, false}
+use mathlib.Core.List.{List, _∷_, _++_, append-assoc, append-nil}
+use Prim.Native.Nat.{ℕ, zero, suc, _+_, _-_, _*_, _/_, _%_, _≤_, _<_}
+use native.Mathlib.Omega.{arith}
+use lib.ListN.{length, take}
+use lib.Seq.{length-take-le}
+use lib.Dec.{leb}
+use borrow.Author.Tests.{le-leb, lt-leb, ne-eqb, leb-true}
+use Rattle.terms.specs.Refusals.{No, buffer-overflow, invalid-abbrev}
+use Rattle.bits.specs.Reader.{Reader, Answer, got, refused, onward, _>>=_, give, stop, require, if_then_else_}
+use Rattle.bits.specs.Bits.{limit, align, vbr, skip}
+use Rattle.bits.specs.Told.{At, Off}
+use Rattle.bits.specs.declared.Cursor.{Cursor}
+use Rattle.bits.proofs.Steps.{on, then-off, off, ends, from-here, off-here, never}
+use Rattle.bits.proofs.Laws.{align-gives, skip-gives, skip-to}
+use Rattle.bitcode.specs.declared.ScalarOperand.{ScalarOperand}
+use Rattle.bitcode.specs.declared.ScalarOperand.the-variants.{Vbr}
+use Rattle.bitcode.specs.Scalar.{value}
+use Rattle.abbrev.specs.Abbrev.{Payload, none, blob, array, abbreviation}
+use Rattle.abbrev.specs.Tables.{slot, slots, load-of, abbrev-of}
+use Rattle.walk.specs.Record.{no-load, list-load, blob-load, a-record, values, repeated, octets, bytes-if, bytes, payload-part, scalar-part, unabbreviated, array-kind, rest, load-list, record-list}
+use Rattle.walk.specs.Piece.{head, record-event, record-of}
+use Rattle.walk.specs.Item.{fits}
+use Rattle.walk.specs.Contracts.{plain, abbreviated, load, Reads, Loads, Recorded, Loaded}
+use Rattle.walk.specs.declared.RecordRead.{RecordRead}
+use Rattle.walk.specs.declared.Got.{Got}
+use Rattle.walk.specs.declared.Got.the-variants as G
+use Rattle.walk.proofs.Runs.{slots-first}
+
+abbrev pub record-read : ℕ → ℕ → ℕ → ℕ → ℕ → ℕ → RecordRead
+record-read code count kind at n fill = record { code = code; count = count; kind = kind; at = at; length = n; fill = fill }
+
+-- ---- the laws of `do`
+module _ {R A B : Type 0} where
+  pub bind-assoc : {C : Type 0} (m : Reader R A) (f : A → Reader R B) (g : B → Reader R C) → (m >>= f >>= g) ≡ (m >>= (λ a. f a >>= g))
+  unfolding _>>=_ onward
+  bind-assoc {C} m f g = fun-ext (λ s. fun-ext (λ e. fun-ext (λ p. go s e (m s e p))))
+    where
+      go : (s : List ℕ) (e : ℕ) (x : Answer R A)
+          → onward (onward x (λ a q. f a s e q)) (λ b q. g b s e q) ≡ onward x (λ a q. onward (f a s e q) (λ b r. g b s e r))
+      go s e (got a q) = refl
+      go s e (refused r) = refl
+
+  pub then-same : (m : Reader R A) {f g : A → Reader R B} → ((a : A) → f a ≡ g a) → (m >>= f) ≡ (m >>= g)
+  then-same m h = ap (λ f. m >>= f) (fun-ext h)
+
+  pub given : (a : A) (f : A → Reader R B) → (give a >>= f) ≡ f a
+  unfolding _>>=_ onward give
+  given a f = refl
+
+-- ---- the two parts of an abbreviated record, as one reader
+module _ (left code : ℕ) (vs : List ℕ) where
+  payload-is : (t : Payload) → (payload-part code vs t >>= rest left) ≡ (load (left - length vs) t >>= (λ l. give (a-record code vs l)))
+  unfolding payload-part rest load
+  payload-is none = given _ _ ∙ sym (given _ _)
+  payload-is (array k) =
+      bind-assoc _ _ _ ∙ then-same _ (λ n. given _ _)
+      ∙ sym (bind-assoc _ _ _ ∙ then-same _ (λ n. bind-assoc _ _ _ ∙ then-same _ (λ xs. given _ _)))
+  payload-is blob =
+      bind-assoc _ _ _ ∙ then-same _ (λ n. bind-assoc _ _ _ ∙ then-same _ (λ u. given _ _))
+      ∙ sym
+      (bind-assoc _ _ _ ∙ then-same _ (λ n. bind-assoc _ _ _ ∙ then-same _ (λ u. bind-assoc _ _ _ ∙ then-same _ (λ p. bind-assoc _ _ _ ∙ then-same _ (λ bs.
+      bind-assoc _ _ _ ∙ then-same _ (λ w. given _ _))))))
+
+pub abbreviated-is : (left : ℕ) (k : ScalarOperand) (ks : List ScalarOperand) (t : Payload)
+    → abbreviated left (abbreviation (k ∷ ks) t)
+    ≡ (value k >>= (λ code. values left ks >>= (λ vs. load (left - length vs) t >>= (λ l. give (a-record code vs l)))))
+unfolding abbreviated scalar-part
+abbreviated-is left k ks t = bind-assoc _ _ _ ∙ then-same _ (λ code. bind-assoc _ _ _ ∙ then-same _ (λ vs. payload-is left code vs t))
+
+-- ---- a record with no abbreviation
+pub plain-reads : {c d g k : Cursor} {s : List ℕ} {code n : ℕ} (ops ops′ ys : List ℕ) (fill : ℕ)
+    → At (vbr 6) s (c .end) (c .at) code d → At (vbr 6) s (d .end) (d .at) n g → At (repeated (length ops - fill) n (Vbr 6)) s (g .end) (g .at) (take n ys) k
+    → n ≤ length ys → take (fill + n) ops′ ≡ take fill ops ++ take n ys → fill + n ≤ length ops′
+    → Reads c s (plain (length ops - fill)) fill ops ops′ (record-read code n 0 0 0 (fill + n)) k
+unfolding plain unabbreviated rest record-of record-list load-list
+plain-reads {code = code} {n = n} ops ops′ ys fill x y z h t m = record {
+  record-read = a-record code (take n ys) no-load;
+  gives = on _ (on _ x (on _ y (on _ z ends))) ends;
+  event = λ b. ap (λ l. record-event b code fill l 0 0 0) (length-take-le n ys h);
+  operands = t ∙ ap (λ l. take fill ops ++ l) (sym (append-nil (take n ys)));
+  most = m;
+}
+
+-- ---- a payload
+pub none-loads : {g : Cursor} {s : List ℕ} (left l code n fill : ℕ) (k : ScalarOperand) (ops : List ℕ) → l ≡ 0 → fill ≤ length ops
+    → Loads g s (load left (load-of l k)) ops ops (record-read code n 0 0 0 fill) (record-read code n 0 0 0 fill) g
+unfolding load load-of if_then_else_ record-of load-list
+none-loads left l code n fill k ops h m = rw h (record {
+  load-read = no-load;
+  gives = ends;
+  event = λ b first vs e z. ap (λ i. record-event b code first i 0 0 0) z;
+  operands = sym (append-nil (take fill ops));
+  most = m;
+})
+
+pub array-loads : {c d g : Cursor} {s : List ℕ} {n : ℕ} (k : ScalarOperand) (ops ops′ ys : List ℕ) (r : RecordRead)
+    → At (vbr 6) s (c .end) (c .at) n d → At (repeated (length ops - r .fill) n k) s (d .end) (d .at) (take n ys) g
+    → n ≤ length ys → take (r .fill + n) ops′ ≡ take (r .fill) ops ++ take n ys → r .fill + n ≤ length ops′
+    → Loads c s (load (length ops - r .fill) (array k)) ops ops′ r (record-read (r .code) (r .count) (array-kind k) (r .fill) n (r .fill + n)) g
+unfolding load record-of load-list
+array-loads {n = n} k ops ops′ ys r x y h t m = record {
+  load-read = list-load (array-kind k) (take n ys);
+  gives = on _ x (on _ y ends);
+  event = λ b first vs e l. rw (length-take-le n ys h, e, l);
+  operands = t;
+  most = m;
+}
+
+octets-length : (s : List ℕ) (p n : ℕ) → length (octets s p n) ≡ n
+unfolding octets
+octets-length s p zero = refl
+octets-length s p (suc n) = ap suc (octets-length s (p + 8) n)
+
+-- a skip from a byte's first bit takes what the bytes of a blob take
+bytes-at : {c d : Cursor} {s : List ℕ} (n : ℕ) → At (skip n) s (c .end) (c .at) tt d → At (bytes n) s (c .end) (c .at) (octets s (c .at) n) d
+unfolding bytes bytes-if
+bytes-at {c} {d} {s} n x =
+    let w = skip-gives s (c .end) (c .at) (d .at) n (x .gives) in
+    record { gives = rw (le-leb (c .at + 8 * n) (limit s (c .end)) (w .1 .inside), w .1 .moved); ends = x .ends }
+
+bytes-off : {c : Cursor} {s : List ℕ} (n : ℕ) {r : No} → c .at % 8 ≡ 0 → Off (skip n) s (c .end) (c .at) r → Off (bytes n) s (c .end) (c .at) buffer-overflow
+unfolding bytes bytes-if
+bytes-off {c} {s} n {r} h x = record { why = go (leb (c .at + 8 * n) (limit s (c .end))) refl }
+  where
+    go : (b : Bool) → leb (c .at + 8 * n) (limit s (c .end)) ≡ b → bytes-if b s (c .at) n ≡ refused buffer-overflow
+    go true i = absurd (never (sym (x .why) ∙ skip-to s (c .end) (c .at) n h (leb-true _ _ i) .gives))
+    go false i = refl
+
+aligned : {c d : Cursor} {s : List ℕ} → At align s (c .end) (c .at) tt d → d .at % 8 ≡ 0
+aligned {c} {d} {s} x = let w = align-gives s (c .end) (c .at) (d .at) (x .gives) in omega (arith, w .moved)
+
+module _ {c d g : Cursor} {s : List ℕ} {n : ℕ} (left : ℕ) (x : At (vbr 6) s (c .end) (c .at) n d) (y : At align s (d .end) (d .at) tt g) where
+  pub blob-loads : {h k : Cursor} (ops : List ℕ) (r : RecordRead) → r .fill ≤ length ops → At (skip n) s (g .end) (g .at) tt h → At align s (h .end) (h .at) tt k
+      → Loads c s (load left blob) ops ops r (record-read (r .code) (r .count) 3 (g .at / 8) n (r .fill)) k
+  unfolding load record-of load-list
+  blob-loads ops r m z w = record {
+    load-read = blob-load (g .at / 8) (octets s (g .at) n);
+    gives = on _ x (on _ y (from-here _ (on _ (bytes-at n z) (on _ w ends))));
+    event = λ b first vs e l. rw (octets-length s (g .at) n, l);
+    operands = sym (append-nil (take (r .fill) ops));
+    most = m;
+  }
+
+  pub blob-short : {r : No} → Off (skip n) s (g .end) (g .at) r → Off (load left blob) s (c .end) (c .at) buffer-overflow
+  unfolding load
+  blob-short z = then-off _ x (then-off _ y (off-here _ (off _ (bytes-off n (aligned y) z))))
+
+  pub blob-unaligned : {h : Cursor} {r : No} → At (skip n) s (g .end) (g .at) tt h → Off align s (h .end) (h .at) r → Off (load left blob) s (c .end) (c .at) r
+  unfolding load
+  blob-unaligned z w = then-off _ x (then-off _ y (off-here _ (then-off _ (bytes-at n z) (off _ w))))
+
+-- ---- a record by the abbreviation of a row
+module _ (left : ℕ) (kinds widths : List ℕ) (base shape : ℕ) where
+  pub no-scalar : {s : List ℕ} {e p : ℕ} → shape % 33 ≡ 0 → Off (abbreviated left (abbrev-of kinds widths base shape)) s e p invalid-abbrev
+  unfolding abbrev-of slots abbreviated scalar-part stop
+  no-scalar h = rw h (off _ (record { why = refl }))
+
+  module _ (some : 0 < shape % 33) where
+    row-reader : abbreviated left (abbrev-of kinds widths base shape)
+        ≡ (value (slot kinds widths base) >>= (λ code. values left (slots kinds widths (base + 1) (shape % 33 - 1)) >>= (λ vs.
+        load (left - length vs) (load-of (shape / 33) (slot kinds widths (base + shape % 33))) >>= (λ l. give (a-record code vs l)))))
+    unfolding abbrev-of
+    row-reader =
+        ap (λ xs. abbreviated left (abbreviation xs (load-of (shape / 33) (slot kinds widths (base + shape % 33))))) (slots-first kinds widths base (shape % 33) some)
+        ∙ abbreviated-is _ _ _ _
+
+    pub code-off : {c : Cursor} {s : List ℕ} {r : No} → Off (value (slot kinds widths base)) s (c .end) (c .at) r
+        → Off (abbreviated left (abbrev-of kinds widths base shape)) s (c .end) (c .at) r
+    code-off x = rw row-reader (off _ x)
+
+    pub values-off : {c d : Cursor} {s : List ℕ} {code : ℕ} {r : No} → At (value (slot kinds widths base)) s (c .end) (c .at) code d
+        → Off (values left (slots kinds widths (base + 1) (shape % 33 - 1))) s (d .end) (d .at) r
+        → Off (abbreviated left (abbrev-of kinds widths base shape)) s (c .end) (c .at) r
+    values-off x y = rw row-reader (then-off _ x (off _ y))
+
+    -- the payload is behind the operands
+    pub load-told : {c d g : Cursor} {s : List ℕ} {code : ℕ} (fill : ℕ) (vs ops ops₁ ops′ : List ℕ) (t : Got)
+        → At (value (slot kinds widths base)) s (c .end) (c .at) code d
+        → At (values left (slots kinds widths (base + 1) (shape % 33 - 1))) s (d .end) (d .at) vs g → length vs ≡ shape % 33 - 1
+        → take (fill + (shape % 33 - 1)) ops₁ ≡ take fill ops ++ vs
+        → Loaded g s (load (left - length vs) (load-of (shape / 33) (slot kinds widths (base + shape % 33)))) ops₁ ops′ (record-read code (shape % 33 - 1) 0 0 0 (fill + (shape % 33 - 1))) t
+        → Recorded c s (abbreviated left (abbrev-of kinds widths base shape)) fill ops ops′ t
+    unfolding record-list
+    load-told {code = code} fill vs ops ops₁ ops′ (G.Of r k) x y e w z = record {
+      record-read = a-record code vs (z .load-read);
+      gives = rw row-reader (on _ x (on _ y (on _ (z .gives) ends)));
+      event = λ b. z .event b fill vs (omega arith) e;
+      operands = z .operands ∙ ap (λ u. u ++ load-list (z .load-read)) w ∙ append-assoc (take fill ops) vs (load-list (z .load-read));
+      most = z .most;
+    }
+    load-told fill vs ops ops₁ ops′ (G.Refused m u v) x y e w z = rw row-reader (then-off _ x (then-off _ y (off _ z)))
+
+-- the payload by its number
+pub array-told : (g : Cursor) (s : List ℕ) (a b l : ℕ) (k : ScalarOperand) (ops ops′ : List ℕ) (r : RecordRead) (t : Got) → l ≡ 1 → a ≡ b
+    → Loaded g s (load a (array k)) ops ops′ r t → Loaded g s (load b (load-of l k)) ops ops′ r t
+unfolding load-of if_then_else_
+array-told g s a b l k ops ops′ r t h e x =
+    subst (λ z. Loaded g s (load z (load-of l k)) ops ops′ r t) e (subst (λ z. Loaded g s (load a (load-of z k)) ops ops′ r t) (sym h) x)
+
+is-blob : (l : ℕ) (k : ScalarOperand) → (l ≡ 0 → ⊥) → (l ≡ 1 → ⊥) → load-of l k ≡ blob
+unfolding load-of if_then_else_
+is-blob l k h j = rw (ne-eqb l 0 h, ne-eqb l 1 j)
+
+pub blob-told : (g : Cursor) (s : List ℕ) (b l : ℕ) (k : ScalarOperand) (ops ops′ : List ℕ) (r : RecordRead) (t : Got) → (l ≡ 0 → ⊥) → (l ≡ 1 → ⊥)
+    → Loaded g s (load b blob) ops ops′ r t → Loaded g s (load b (load-of l k)) ops ops′ r t
+blob-told g s b l k ops ops′ r t h j x = subst (λ z. Loaded g s (load b z) ops ops′ r t) (sym (is-blob l k h j)) x
+
+-- ---- a head's body lies within its parent
+module _ (b w at n : ℕ) {d : Cursor} {s : List ℕ} where
+  pub fits-at : d .at + 8 * n ≤ limit s (d .end) → At (fits (head b w at n)) s (d .end) (d .at) tt d
+  unfolding fits require
+  fits-at h = record { gives = rw (le-leb (d .at + 8 * n) (limit s (d .end)) h); ends = refl }
+
+  pub fits-off : limit s (d .end) < d .at + 8 * n → Off (fits (head b w at n)) s (d .end) (d .at) buffer-overflow
+  unfolding fits require
+  fits-off h = record { why = rw (lt-leb (d .at + 8 * n) (limit s (d .end)) h) }
