@@ -1,6 +1,7 @@
 pub mod Blobs
 pub mod Answers
 pub mod Whole
+pub mod Demands
 pub mod Turns
 pub mod Stores
 pub mod Runs

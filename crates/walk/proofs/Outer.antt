@@ -29,6 +29,7 @@ use Rattle.walk.specs.declared.Frame.{Frame}
 use Rattle.walk.specs.declared.Done.{Done}
 use Rattle.walk.specs.declared.Done.the-variants as D
 use Rattle.walk.proofs.Whole.{entries-length}
+use Rattle.walk.proofs.Demands.{Meets}
 
 -- ---- the skip list, from the place i on
 module _ (b : ℕ) (xs : List ℕ) (i : ℕ) where
@@ -123,10 +124,6 @@ unfolding outcome
 refused-so g i j = i ∙ ap (outcome g) j
 
 -- ---- what the call promises: the answer and both stores
-abbrev pub Meets : List ℕ → List ℕ → ℕ → ℕ → Walked → List ℕ → List ℕ → Type 0
-Meets bs skip ne nops w es os =
-    (w ≡ answer (walked bs skip ne nops)) × ((es ≡ walked bs skip ne nops .event-store) × (os ≡ walked bs skip ne nops .operand-store))
-
 meets-as : (bs skip : List ℕ) (ne nops : ℕ) (o : Outcome) {w : Walked} {es os : List ℕ} → walk bs skip ne nops ≡ o
     → w ≡ answer (result ne nops o) → es ≡ result ne nops o .event-store → os ≡ result ne nops o .operand-store → Meets bs skip ne nops w es os
 unfolding walked

@@ -110,7 +110,7 @@ pub record Nothing (n m : ℕ) (r : Result) : Type 0 where
   pub event-zeros : r .event-store ≡ replicate n 0
   pub operand-zeros : r .operand-store ≡ replicate m 0
 
-filled-zero : (n : ℕ) → filled n [] ≡ replicate n 0
+pub filled-zero : (n : ℕ) → filled n [] ≡ replicate n 0
 unfolding filled
 filled-zero n = ap (λ k. replicate k 0) (sub-zero n)
 
