@@ -51,10 +51,10 @@ pub struct AbbrevNumber(pub u64);
 // is the count of its scalars and 33 times its payload (0 none, 1 an array, 2 a blob); for each shared row the number of the block that it is for;
 // and how many rows are in use.
 pub struct Abbreviations {
-    pub kinds: [u8; 2178],
-    pub widths: [u64; 2178],
-    pub shapes: [u64; 66],
-    pub owners: [u64; 32],
+    pub kinds: [u8; SLOTS],
+    pub widths: [u64; SLOTS],
+    pub shapes: [u64; ROWS],
+    pub owners: [u64; MAX_SHARED],
     pub shared: usize,
     pub local: usize,
 }
@@ -123,10 +123,10 @@ impl Abbreviations {
         ensures { λ r. ⌜ nothing-held r ⌝ }
     {
         Self {
-            kinds: [0; 2178],
-            widths: [0; 2178],
-            shapes: [0; 66],
-            owners: [0; 32],
+            kinds: [0; SLOTS],
+            widths: [0; SLOTS],
+            shapes: [0; ROWS],
+            owners: [0; MAX_SHARED],
             shared: 0,
             local: 0,
         }

@@ -7,6 +7,7 @@ use Prim.Native.Nat.{ℕ, zero, suc, _+_, _-_, _*_, _/_, _≤_, _<_}
 use native.Mathlib.Omega.{arith}
 use lib.ListN.{length, take, set}
 use borrow.Author.Tests.{lt-ltb, le-ltb, le-leb, lt-leb, ne-eqb}
+use Rattle.terms.specs.Limits.{event-size}
 use Rattle.terms.specs.Refusals.{No, no, Refusal, refusal}
 use Rattle.bits.specs.Reader.{Reader, Answer, got, refused, onward, _>>=_, give, stop, require, if_then_else_, here, turns, at-place, placed}
 use Rattle.bits.specs.Bits.{limit, align, ends-at}
@@ -218,8 +219,8 @@ room-none m at shared local ev ops h k = record {
 }
 
 -- an event, and no operand
-pub room-event : (m : Marks) (at shared local : ℕ) (x : Event) (ev ev′ ops : List ℕ) → m .events + 8 ≤ length ev → length ev′ ≡ length ev → m .operands ≤ length ops
-    → take (m .events + 8) ev′ ≡ take (m .events) ev ++ entry x → Room m (marks at (m .events + 8) (m .operands) shared local) ev ev′ ops ops (entries (x ∷ [])) []
+pub room-event : (m : Marks) (at shared local : ℕ) (x : Event) (ev ev′ ops : List ℕ) → m .events + event-size ≤ length ev → length ev′ ≡ length ev → m .operands ≤ length ops
+    → take (m .events + event-size) ev′ ≡ take (m .events) ev ++ entry x → Room m (marks at (m .events + event-size) (m .operands) shared local) ev ev′ ops ops (entries (x ∷ [])) []
 unfolding entries
 room-event m at shared local x ev ev′ ops h p k z = record {
   events = z ∙ ap (λ y. take (m .events) ev ++ y) (sym (append-nil (entry x)));
@@ -244,9 +245,9 @@ module _ (s skip : List ℕ) (f : Frame) (m : Marks) (own : List ℕ) (t : Table
   })
 
   -- a block ends: its leave event
-  pub ended-block : (at : ℕ) (ev′ : List ℕ) {x : Answer Refusal Opening} → f .top ≡ false → x ≡ got ended at → m .events + 8 ≤ length ev → length ev′ ≡ length ev
-      → take (m .events + 8) ev′ ≡ take (m .events) ev ++ entry (leave (f .number))
-      → Ended s skip f m (marks at (m .events + 8) (m .operands) (m .shared) (f .base)) own t ev ev′ ops ops x
+  pub ended-block : (at : ℕ) (ev′ : List ℕ) {x : Answer Refusal Opening} → f .top ≡ false → x ≡ got ended at → m .events + event-size ≤ length ev → length ev′ ≡ length ev
+      → take (m .events + event-size) ev′ ≡ take (m .events) ev ++ entry (leave (f .number))
+      → Ended s skip f m (marks at (m .events + event-size) (m .operands) (m .shared) (f .base)) own t ev ev′ ops ops x
   unfolding closed if_then_else_
   ended-block at ev′ top z h p told = rw top (record {
     gives = completed-ended s skip f St z;
@@ -267,7 +268,7 @@ module _ (s skip : List ℕ) (f : Frame) (m : Marks) (own : List ℕ) (t : Table
         block-rows-kept {local = m .local} (kept-less (omega arith) (omega (arith, sits .local)) k) own (f .base) b (omega (arith, sits .shared)) (sits .base)
         ∙ sym (append-nil (block-rows t own (f .base) (m .local))) in
         let x₂ : m .local ≡ m .local + 0 = omega arith in
-        let x₃ : (length ev - m .events) / 8 ≡ (length ev - m .events) / 8 - 0 = omega arith in
+        let x₃ : (length ev - m .events) / event-size ≡ (length ev - m .events) / event-size - 0 = omega arith in
         let x₄ : m .operands ≡ m .operands + 0 = omega arith in
         let x₅ : length ops - m .operands ≡ length ops - m .operands - 0 = omega arith in
         record {
@@ -293,15 +294,15 @@ module _ (s skip : List ℕ) (f : Frame) (m : Marks) (own : List ℕ) (t : Table
     info-added h b t′ have k z = info-went t′ have k b (sym (info-here h) ∙ z .gives) (z .holds) (z .more) (z .most)
 
     -- a block of the skip list: its skip event
-    pub skip-went : (b : ℕ) (ev′ : List ℕ) → (b ≡ 0 → ⊥) → listed b skip ≡ true → m .events + 8 ≤ length ev → length ev′ ≡ length ev
-        → take (m .events + 8) ev′ ≡ take (m .events) ev ++ entry (Rattle.walk.specs.Piece.skip b w (g .at / 8) n)
-        → Went s skip f m (marks (g .at + 8 * n) (m .events + 8) (m .operands) (m .shared) (m .local)) own t t ev ev′ ops ops (headedAt m b w n g)
+    pub skip-went : (b : ℕ) (ev′ : List ℕ) → (b ≡ 0 → ⊥) → listed b skip ≡ true → m .events + event-size ≤ length ev → length ev′ ≡ length ev
+        → take (m .events + event-size) ev′ ≡ take (m .events) ev ++ entry (Rattle.walk.specs.Piece.skip b w (g .at / 8) n)
+        → Went s skip f m (marks (g .at + 8 * n) (m .events + event-size) (m .operands) (m .shared) (m .local)) own t t ev ev′ ops ops (headedAt m b w n g)
     unfolding after events counted store added Rattle.walk.specs.Piece.own skipping
     skip-went b ev′ z i h p told =
         let x₀ : shareds t 0 (m .shared) ≡ shareds t 0 (m .shared) ++ [] = sym (append-nil (shareds t 0 (m .shared))) in
         let x₁ : block-rows t own (f .base) (m .local) ≡ block-rows t own (f .base) (m .local) ++ [] = sym (append-nil (block-rows t own (f .base) (m .local))) in
         let x₂ : m .local ≡ m .local + 0 = omega arith in
-        let x₃ : (length ev - (m .events + 8)) / 8 ≡ (length ev - m .events) / 8 - 1 = omega arith in
+        let x₃ : (length ev - (m .events + event-size)) / 8 ≡ (length ev - m .events) / event-size - 1 = omega arith in
         let x₄ : m .operands ≡ m .operands + 0 = omega arith in
         let x₅ : length ops - m .operands ≡ length ops - m .operands - 0 = omega arith in
         record {
@@ -314,9 +315,9 @@ module _ (s skip : List ℕ) (f : Frame) (m : Marks) (own : List ℕ) (t : Table
         }
 
     -- a block that is entered: its enter event
-    pub block-entered : (b : ℕ) (ev′ : List ℕ) → (b ≡ 0 → ⊥) → listed b skip ≡ false → 0 < f .left → m .events + 8 ≤ length ev → length ev′ ≡ length ev
-        → g .at + 8 * n ≤ limit s (f .end) → take (m .events + 8) ev′ ≡ take (m .events) ev ++ entry (enter b w (g .at / 8) n)
-        → Entered s skip f m (marks (g .at) (m .events + 8) (m .operands) (m .shared) (m .local)) b w n ev ev′ ops ops (headedAt m b w n g)
+    pub block-entered : (b : ℕ) (ev′ : List ℕ) → (b ≡ 0 → ⊥) → listed b skip ≡ false → 0 < f .left → m .events + event-size ≤ length ev → length ev′ ≡ length ev
+        → g .at + 8 * n ≤ limit s (f .end) → take (m .events + event-size) ev′ ≡ take (m .events) ev ++ entry (enter b w (g .at / 8) n)
+        → Entered s skip f m (marks (g .at) (m .events + event-size) (m .operands) (m .shared) (m .local)) b w n ev ev′ ops ops (headedAt m b w n g)
     unfolding those
     block-entered b ev′ z i l h p fits told = record {
       opens = refl;
@@ -344,7 +345,7 @@ module _ (s skip : List ℕ) (f : Frame) (m : Marks) (own : List ℕ) (t : Table
       let x₀ : shareds (tables kinds′ widths′ (set (t .shapes) (33 + m .local) shape) (t .owners)) 0 (m .shared) ≡ shareds t 0 (m .shared) ++ [] =
       shareds-kept {have = m .shared} {local = m .local} (kept-shape shape k j) (m .shared) (omega arith) (omega (arith, sits .shared)) ∙ sym (append-nil (shareds t 0 (m .shared))) in
       let x₁ = block-rows-more t own (f .base) (m .local) shape k j b (omega (arith, sits .shared)) (sits .base) h in
-      let x₃ : (length ev - m .events) / 8 ≡ (length ev - m .events) / 8 - 0 = omega arith in
+      let x₃ : (length ev - m .events) / event-size ≡ (length ev - m .events) / event-size - 0 = omega arith in
       let x₄ : m .operands ≡ m .operands + 0 = omega arith in
       let x₅ : length ops - m .operands ≡ length ops - m .operands - 0 = omega arith in
       record {
@@ -383,9 +384,9 @@ module _ (s skip : List ℕ) (f : Frame) (m : Marks) (own : List ℕ) (t : Table
       abbrev Rec : Piece
       Rec = the-record (m .at) (f .number) (m .operands) (q .record-read)
 
-      record-room : m .events + 8 ≤ length ev
-          → take (m .events + 8) ev′ ≡ take (m .events) ev ++ entry (record-event (f .number) (r .code) (m .operands) (r .count) (r .kind) (r .at) (r .length))
-          → Room m (marks (g .at) (m .events + 8) (r .fill) (m .shared) (m .local)) ev ev′ ops ops′ (entries (events Rec)) (store Rec)
+      record-room : m .events + event-size ≤ length ev
+          → take (m .events + event-size) ev′ ≡ take (m .events) ev ++ entry (record-event (f .number) (r .code) (m .operands) (r .count) (r .kind) (r .at) (r .length))
+          → Room m (marks (g .at) (m .events + event-size) (r .fill) (m .shared) (m .local)) ev ev′ ops ops′ (entries (events Rec)) (store Rec)
       unfolding entries events store
       record-room long told = record {
         events = told ∙ ap (λ y. take (m .events) ev ++ y) (ap entry (sym (q .event (f .number))) ∙ sym (append-nil (entry (record-of (f .number) (m .operands) (q .record-read)))));
@@ -394,10 +395,10 @@ module _ (s skip : List ℕ) (f : Frame) (m : Marks) (own : List ℕ) (t : Table
         most-operands = q .most;
       }
 
-      record-went : m .events + 8 ≤ length ev
-          → take (m .events + 8) ev′ ≡ take (m .events) ev ++ entry (record-event (f .number) (r .code) (m .operands) (r .count) (r .kind) (r .at) (r .length))
+      record-went : m .events + event-size ≤ length ev
+          → take (m .events + event-size) ev′ ≡ take (m .events) ev ++ entry (record-event (f .number) (r .code) (m .operands) (r .count) (r .kind) (r .at) (r .length))
           → length ops′ ≡ length ops
-          → Went s skip f m (marks (g .at) (m .events + 8) (r .fill) (m .shared) (m .local)) own t t ev ev′ ops ops′ x
+          → Went s skip f m (marks (g .at) (m .events + event-size) (r .fill) (m .shared) (m .local)) own t t ev ev′ ops ops′ x
       unfolding after counted store added Rattle.walk.specs.Piece.own
       record-went long told same =
           let room = record-room long told in
@@ -406,7 +407,7 @@ module _ (s skip : List ℕ) (f : Frame) (m : Marks) (own : List ℕ) (t : Table
           let x₀ : shareds t 0 (m .shared) ≡ shareds t 0 (m .shared) ++ [] = sym (append-nil (shareds t 0 (m .shared))) in
           let x₁ : block-rows t own (f .base) (m .local) ≡ block-rows t own (f .base) (m .local) ++ [] = sym (append-nil (block-rows t own (f .base) (m .local))) in
           let x₂ : m .local ≡ m .local + 0 = omega arith in
-          let x₃ : (length ev - (m .events + 8)) / 8 ≡ (length ev - m .events) / 8 - 1 = omega arith in
+          let x₃ : (length ev - (m .events + event-size)) / 8 ≡ (length ev - m .events) / event-size - 1 = omega arith in
           let x₄ : r .fill ≡ m .operands + length (record-list (q .record-read)) = l .1 in
           let x₅ : length ops - r .fill ≡ length ops - m .operands - length (record-list (q .record-read)) = omega (arith, x₄) in
           record {

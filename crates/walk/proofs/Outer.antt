@@ -9,7 +9,7 @@ use native.Mathlib.Omega.{arith}
 use lib.ListN.{length, take, drop, set, getD, replicate, length-replicate, replicate-append-replicate, drop-of-length-le}
 use lib.Seq.{length-take-le, take-suc-set, drop-cons}
 use borrow.Author.Tests.{lt-ltb, le-ltb, eq-eqb, ne-eqb}
-use Rattle.terms.specs.Limits.{max-input}
+use Rattle.terms.specs.Limits.{max-input, event-size}
 use Rattle.terms.specs.Refusals.{Refusal, refusal}
 use Rattle.bits.specs.Reader.{Answer, refused, if_then_else_, turns}
 use Rattle.bitcode.specs.declared.Signature.{Signature}
@@ -152,7 +152,7 @@ unfolding result outcome
 meets-accepted bs skip ev ops {g} {s} {ev′} {ops′} m o h i j a =
     let xs = h .pieces in
     let n : m .events ≡ 8 * length (all-events xs) = sym (length-take-le (m .events) ev′ (h .most-events)) ∙ ap length (h .events) ∙ entries-length (all-events xs) in
-    let c : m .events / 8 ≡ length (all-events xs) = omega arith in
+    let c : m .events / event-size ≡ length (all-events xs) = omega arith in
     let k : m .operands ≡ length (all-store xs) = sym (length-take-le (m .operands) ops′ (h .most-operands)) ∙ ap length (h .operands) in
     meets-as bs skip (length ev) (length ops) (accepted g xs) (o ∙ ap (outcome g) (h .gives))
     (a .0 ∙ ap₂ (λ (x : ℕ) (y : ℕ). record { status = 0; place = 0; first = 0; second = 0; header = g; events = x; operands = y }) c k)

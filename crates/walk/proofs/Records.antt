@@ -3,31 +3,33 @@
 use mathlib.Core.Path.{_≡_, refl, sym, ap, subst, fun-ext, _∙_}
 use mathlib.Core.Bool.{Bool, true, false}
 use mathlib.Core.List.{List, _∷_, _++_, append-assoc, append-nil}
-use Prim.Native.Nat.{ℕ, zero, suc, _+_, _-_, _*_, _/_, _%_, _≤_, _<_}
+use Prim.Native.Nat.{ℕ, zero, suc, _+_, _-_, _*_, _/_, _%_, _^_, _≤_, _<_}
 use native.Mathlib.Omega.{arith}
 use lib.ListN.{length, take}
 use lib.Seq.{length-take-le}
-use lib.Dec.{leb}
-use borrow.Author.Tests.{le-leb, lt-leb, ne-eqb, leb-true}
-use Rattle.terms.specs.Refusals.{No, buffer-overflow, invalid-abbrev}
+use lib.Dec.{leb, ltb}
+use borrow.Author.Tests.{le-leb, lt-leb, lt-ltb, ne-eqb, leb-true}
+use Rattle.terms.specs.Refusals.{No, buffer-overflow, invalid-abbrev, block-number-too-large}
 use Rattle.bits.specs.Reader.{Reader, Answer, got, refused, onward, _>>=_, give, stop, require, if_then_else_}
 use Rattle.bits.specs.Bits.{limit, align, vbr, skip}
 use Rattle.bits.specs.Told.{At, Off}
 use Rattle.bits.specs.declared.Cursor.{Cursor}
-use Rattle.bits.proofs.Steps.{on, then-off, off, ends, from-here, off-here, never}
+use Rattle.bits.proofs.Steps.{on, then-off, off, ends, pass, pass-off, from-here, off-here, never}
 use Rattle.bits.proofs.Laws.{align-gives, skip-gives, skip-to}
 use Rattle.bitcode.specs.declared.ScalarOperand.{ScalarOperand}
 use Rattle.bitcode.specs.declared.ScalarOperand.the-variants.{Vbr}
 use Rattle.bitcode.specs.Scalar.{value}
 use Rattle.abbrev.specs.Abbrev.{Payload, none, blob, array, abbreviation}
 use Rattle.abbrev.specs.Tables.{slot, slots, load-of, abbrev-of}
-use Rattle.walk.specs.Record.{no-load, list-load, blob-load, a-record, values, repeated, octets, bytes-if, bytes, payload-part, scalar-part, unabbreviated, array-kind, rest, load-list, record-list}
-use Rattle.walk.specs.Piece.{head, record-event, record-of}
-use Rattle.walk.specs.Item.{fits}
-use Rattle.walk.specs.Contracts.{plain, abbreviated, load, Reads, Loads, Recorded, Loaded}
+use Rattle.walk.specs.Record.{Load, no-load, list-load, blob-load, a-record, values, repeated, octets, bytes-if, bytes, payload-part, scalar-part, unabbreviated, array-kind, rest, load-list, record-list}
+use Rattle.walk.specs.Piece.{Head, head, record-event, record-of}
+use Rattle.walk.specs.Item.{heading, fits}
+use Rattle.walk.specs.Contracts.{plain, abbreviated, blob-bytes, load, Reads, Loads, Recorded, Loaded, head-length, head-width, head-fits, Heads}
 use Rattle.walk.specs.declared.RecordRead.{RecordRead}
 use Rattle.walk.specs.declared.Got.{Got}
 use Rattle.walk.specs.declared.Got.the-variants as G
+use Rattle.walk.specs.declared.HeadRead.{HeadRead}
+use Rattle.walk.specs.declared.HeadRead.the-variants as H
 use Rattle.walk.proofs.Runs.{slots-first}
 
 abbrev pub record-read : ℕ → ℕ → ℕ → ℕ → ℕ → ℕ → RecordRead
@@ -54,7 +56,7 @@ module _ {R A B : Type 0} where
 -- ---- the two parts of an abbreviated record, as one reader
 module _ (left code : ℕ) (vs : List ℕ) where
   payload-is : (t : Payload) → (payload-part code vs t >>= rest left) ≡ (load (left - length vs) t >>= (λ l. give (a-record code vs l)))
-  unfolding payload-part rest load
+  unfolding payload-part rest load blob-bytes
   payload-is none = given _ _ ∙ sym (given _ _)
   payload-is (array k) =
       bind-assoc _ _ _ ∙ then-same _ (λ n. given _ _)
@@ -130,28 +132,35 @@ bytes-off {c} {s} n {r} h x = record { why = go (leb (c .at + 8 * n) (limit s (c
     go true i = absurd (never (sym (x .why) ∙ skip-to s (c .end) (c .at) n h (leb-true _ _ i) .gives))
     go false i = refl
 
-aligned : {c d : Cursor} {s : List ℕ} → At align s (c .end) (c .at) tt d → d .at % 8 ≡ 0
+pub aligned : {c d : Cursor} {s : List ℕ} → At align s (c .end) (c .at) tt d → d .at % 8 ≡ 0
 aligned {c} {d} {s} x = let w = align-gives s (c .end) (c .at) (d .at) (x .gives) in omega (arith, w .moved)
 
-module _ {c d g : Cursor} {s : List ℕ} {n : ℕ} (left : ℕ) (x : At (vbr 6) s (c .end) (c .at) n d) (y : At align s (d .end) (d .at) tt g) where
-  pub blob-loads : {h k : Cursor} (ops : List ℕ) (r : RecordRead) → r .fill ≤ length ops → At (skip n) s (g .end) (g .at) tt h → At align s (h .end) (h .at) tt k
-      → Loads c s (load left blob) ops ops r (record-read (r .code) (r .count) 3 (g .at / 8) n (r .fill)) k
-  unfolding load record-of load-list
-  blob-loads ops r m z w = record {
-    load-read = blob-load (g .at / 8) (octets s (g .at) n);
-    gives = on _ x (on _ y (from-here _ (on _ (bytes-at n z) (on _ w ends))));
-    event = λ b first vs e l. rw (octets-length s (g .at) n, l);
+module _ {c d : Cursor} {s : List ℕ} (n : ℕ) where
+  pub bytes-loads : {g : Cursor} (ops : List ℕ) (r : RecordRead) → r .fill ≤ length ops → At (skip n) s (c .end) (c .at) tt d → At align s (d .end) (d .at) tt g
+      → Loads c s (blob-bytes n) ops ops r (record-read (r .code) (r .count) 3 (c .at / 8) n (r .fill)) g
+  unfolding blob-bytes record-of load-list
+  bytes-loads ops r m z w = record {
+    load-read = blob-load (c .at / 8) (octets s (c .at) n);
+    gives = from-here _ (on _ (bytes-at n z) (on _ w ends));
+    event = λ b first vs e l. rw (octets-length s (c .at) n, l);
     operands = sym (append-nil (take (r .fill) ops));
     most = m;
   }
 
-  pub blob-short : {r : No} → Off (skip n) s (g .end) (g .at) r → Off (load left blob) s (c .end) (c .at) buffer-overflow
-  unfolding load
-  blob-short z = then-off _ x (then-off _ y (off-here _ (off _ (bytes-off n (aligned y) z))))
+  pub bytes-unaligned : {r : No} → At (skip n) s (c .end) (c .at) tt d → Off align s (d .end) (d .at) r → Off (blob-bytes n) s (c .end) (c .at) r
+  unfolding blob-bytes
+  bytes-unaligned z w = off-here _ (then-off _ (bytes-at n z) (off _ w))
 
-  pub blob-unaligned : {h : Cursor} {r : No} → At (skip n) s (g .end) (g .at) tt h → Off align s (h .end) (h .at) r → Off (load left blob) s (c .end) (c .at) r
-  unfolding load
-  blob-unaligned z w = then-off _ x (then-off _ y (off-here _ (then-off _ (bytes-at n z) (off _ w))))
+pub bytes-short : {c : Cursor} {s : List ℕ} (n : ℕ) {r : No} → c .at % 8 ≡ 0 → Off (skip n) s (c .end) (c .at) r → Off (blob-bytes n) s (c .end) (c .at) buffer-overflow
+unfolding blob-bytes
+bytes-short n h z = off-here _ (off _ (bytes-off n h z))
+
+-- a payload behind what stands before it
+pub loads-behind : {A : Type 0} {c d : Cursor} {s : List ℕ} {m : Reader No A} {a : A} (f : A → Reader No Load) (ops ops′ : List ℕ) (r : RecordRead) (t : Got)
+    → At m s (c .end) (c .at) a d → Loaded d s (f a) ops ops′ r t → Loaded c s (m >>= f) ops ops′ r t
+loads-behind f ops ops′ r (G.Of r′ g) x z =
+    record { load-read = z .load-read; gives = on f x (z .gives); event = z .event; operands = z .operands; most = z .most }
+loads-behind f ops ops′ r (G.Refused n u v) x z = then-off f x z
 
 -- ---- a record by the abbreviation of a row
 module _ (left : ℕ) (kinds widths : List ℕ) (base shape : ℕ) where
@@ -218,3 +227,25 @@ module _ (b w at n : ℕ) {d : Cursor} {s : List ℕ} where
   pub fits-off : limit s (d .end) < d .at + 8 * n → Off (fits (head b w at n)) s (d .end) (d .at) buffer-overflow
   unfolding fits require
   fits-off h = record { why = rw (lt-leb (d .at + 8 * n) (limit s (d .end)) h) }
+
+-- the head's reader, number first
+pub head-is : head-fits ≡ (vbr 8 >>= (λ b. require (ltb b (2 ^ 32)) (block-number-too-large b) >>= (λ u. head-width b)))
+unfolding head-fits heading head-width head-length
+head-is =
+    bind-assoc _ _ _ ∙ then-same _ (λ b. bind-assoc _ _ _ ∙ then-same _ (λ u. bind-assoc _ _ _ ∙ then-same _ (λ w. bind-assoc _ _ _ ∙ then-same _ (λ v.
+    bind-assoc _ _ _ ∙ then-same _ (λ n. bind-assoc _ _ _ ∙ then-same _ (λ p. given _ _))))))
+
+-- a head behind what stands before it
+pub heads-behind : {A : Type 0} {c d : Cursor} {s : List ℕ} {m : Reader No A} {a : A} (f : A → Reader No Head) (t : HeadRead)
+    → At m s (c .end) (c .at) a d → Heads d s (f a) t → Heads c s (m >>= f) t
+heads-behind {s = s} f (H.At b w n g) x z = (on f x (z .0), rw (x .ends) at (z .1))
+heads-behind f (H.Refused n u v) x z = then-off f x z
+
+pub heads-as : (c : Cursor) (s : List ℕ) {m m′ : Reader No Head} (t : HeadRead) → m ≡ m′ → Heads c s m′ t → Heads c s m t
+heads-as c s t i z = subst (λ x. Heads c s x t) (sym i) z
+
+-- a number that a block may have
+pub heads-pass : (c : Cursor) (s : List ℕ) (b : ℕ) (t : HeadRead) → b < 2 ^ 32 → Heads c s (head-width b) t
+    → Heads c s (require (ltb b (2 ^ 32)) (block-number-too-large b) >>= (λ u. head-width b)) t
+heads-pass c s b (H.At b′ w n g) h z = (pass _ _ (lt-ltb b (2 ^ 32) h) (z .0), z .1)
+heads-pass c s b (H.Refused n u v) h z = pass-off _ _ (lt-ltb b (2 ^ 32) h) z

@@ -9,6 +9,7 @@ use native.Mathlib.Omega.{arith}
 use lib.ListN.{length, take, drop, length-append}
 use lib.Seq.{length-take-le, take-at}
 use borrow.Author.Tests.{lt-ltb, ne-eqb}
+use Rattle.terms.specs.Limits.{event-size}
 use Rattle.terms.specs.Refusals.{Refusal}
 use Rattle.bits.specs.Reader.{Reader, Answer, got, refused, onward, _>>=_, give, require, turns, if_then_else_}
 use Rattle.bits.specs.Bits.{limit}
@@ -184,7 +185,7 @@ unfolding joined entries all-events all-store all-added
 going-first s skip f m own t ev ops whole sits from z = record {
   so-far = done 0;
   answer =
-      ap (λ ms. Rest (f .left) (those skip) (context f) (record { shareds = shareds t 0 (m .shared); mine = ms; locals = m .local; room = (length ev - m .events) / 8; fill = m .operands; left = length ops - m .operands }) s (f .end) (m .at)) (first-rows f m own t from (sits .shared) whole z)
+      ap (λ ms. Rest (f .left) (those skip) (context f) (record { shareds = shareds t 0 (m .shared); mine = ms; locals = m .local; room = (length ev - m .events) / event-size; fill = m .operands; left = length ops - m .operands }) s (f .end) (m .at)) (first-rows f m own t from (sits .shared) whole z)
       ∙ sym (mapped-same (joined (done 0)) (λ a. refl) _);
   room = record {
     events = sym (append-nil (take (m .events) ev));
@@ -364,9 +365,9 @@ module _ {s skip : List ℕ} {f : Frame} {m₀ : Marks} {own : List ℕ} {t₀ :
       let i = d .is in
       let e₁ : u .shared ≡ m .shared = ap (λ z. z .shared) i in
       let e₂ : u .local ≡ m .local = ap (λ z. z .local) i in
-      let e₃ : u .events ≡ m .events + 8 = ap (λ z. z .events) i in
+      let e₃ : u .events ≡ m .events + event-size = ap (λ z. z .events) i in
       let e₄ : u .operands ≡ m .operands = ap (λ z. z .operands) i in
-      let e₅ : (length ev₀ - u .events) / 8 ≡ (length ev₀ - m .events) / 8 - 1 = omega arith in
+      let e₅ : (length ev₀ - u .events) / event-size ≡ (length ev₀ - m .events) / event-size - 1 = omega arith in
       let e₆ = shareds-kept k (m .shared) (omega arith) (omega (arith, g .sits .shared)) in
       let e₇ : shareds t′ 0 (u .shared) ≡ shareds t 0 (m .shared) = ap (shareds t′ 0) e₁ ∙ e₆ in
       rw (e₇, e₂, e₅, e₄)
@@ -433,7 +434,7 @@ module _ {s skip : List ℕ} {f : Frame} {m₀ : Marks} {own : List ℕ} {t₀ :
         ap (block-rows t″ own (f .base)) local-here ∙ block-rows-kept (kept-both k′) own (f .base) (g .below) (omega (arith, g .sits .shared)) (g .sits .base)
         ∙ sym (append-nil (block-rows t own (f .base) (m .local))) in
         let x₂ : v .local ≡ m .local + 0 = omega (arith, local-here) in
-        let x₃ : (length ev₀ - v .events) / 8 ≡ (length ev₀ - m .events) / 8 - counted Block = omega (arith, l .0, e, c) in
+        let x₃ : (length ev₀ - v .events) / event-size ≡ (length ev₀ - m .events) / event-size - counted Block = omega (arith, l .0, e, c) in
         let x₄ : v .operands ≡ m .operands + length (store Block) = l .1 in
         let x₅ : length ops₀ - v .operands ≡ length ops₀ - m .operands - length (store Block) = omega (arith, l .1) in
         cc

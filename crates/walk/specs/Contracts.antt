@@ -6,9 +6,10 @@ use mathlib.Core.List.{List, [], _∷_, _++_}
 use mathlib.Core.Option.{Option, none as nothing, some}
 use Prim.Native.Nat.{ℕ, _+_, _-_, _*_, _/_, _≤_, _<_}
 use lib.ListN.{length, take, replicate}
+use Rattle.terms.specs.Limits.{event-size}
 use Rattle.terms.specs.Refusals.{No, no, Refusal, refusal}
 use Rattle.bits.specs.Reader.{Reader, Answer, got, refused, onward, _>>=_, _>>_, give, if_then_else_, here, turns, placed}
-use Rattle.bits.specs.Bits.{limit, vbr, align}
+use Rattle.bits.specs.Bits.{limit, read, vbr, align}
 use Rattle.bits.specs.Told.{At, Off}
 use Rattle.bits.specs.declared.Cursor.{Cursor}
 use Rattle.bitcode.specs.declared.Signature.{Signature}
@@ -70,7 +71,7 @@ stateOf f m own t ne nops = record {
   shareds = shareds t 0 (m .shared);
   mine = block-rows t own (f .base) (m .local);
   locals = m .local;
-  room = (ne - m .events) / 8;
+  room = (ne - m .events) / event-size;
   fill = m .operands;
   left = nops - m .operands;
 }
@@ -81,7 +82,7 @@ startOf f m t ne nops = record {
   shareds = shareds t 0 (m .shared);
   mine = shared-for (f .number) (shareds t 0 (m .shared));
   locals = m .local;
-  room = (ne - m .events) / 8;
+  room = (ne - m .events) / event-size;
   fill = m .operands;
   left = nops - m .operands;
 }
@@ -141,8 +142,8 @@ pub record Entered (s skip : List ℕ) (f : Frame) (m m′ : Marks) (b w n : ℕ
   pub opens : x ≡ got (headed (m .at) (head b w (m′ .at / 8) n)) (m′ .at)
   pub entered-is : (b ≡ 0 → ⊥) × (those skip (m .at) b ≡ false)
   pub levels : 0 < f .left
-  pub spare : 0 < (length ev - m .events) / 8
-  pub is : m′ ≡ marks (m′ .at) (m .events + 8) (m .operands) (m .shared) (m .local)
+  pub spare : 0 < (length ev - m .events) / event-size
+  pub is : m′ ≡ marks (m′ .at) (m .events + event-size) (m .operands) (m .shared) (m .local)
   pub room : Room m m′ ev ev′ ops ops′ (entry (enter b w (m′ .at / 8) n)) []
   pub fits : m′ .at + 8 * n ≤ limit s (f .end)
 
@@ -202,7 +203,7 @@ Denies x ne nops r ev′ ops′ =
 
 abbrev pub Accepts : Signature → Marks → List ℕ → List ℕ → Walked → List ℕ → List ℕ → Type 0
 Accepts h m ev ops r ev′ ops′ =
-    (r ≡ record { status = 0; place = 0; first = 0; second = 0; header = h; events = m .events / 8; operands = m .operands })
+    (r ≡ record { status = 0; place = 0; first = 0; second = 0; header = h; events = m .events / event-size; operands = m .operands })
     × (ev′ ≡ cleared (m .events) ev) × (ops′ ≡ cleared (m .operands) ops)
 
 -- ---- records
@@ -230,6 +231,13 @@ Recorded c s m fill ops ops′ (G.Of r d) = Reads c s m fill ops ops′ r d
 Recorded c s m fill ops ops′ (G.Refused n x y) = Off m s (c .end) (c .at) (no n x y)
 
 -- a payload, behind a record's code and operands
+unfoldable pub blob-bytes : ℕ → Reader No Load
+blob-bytes n = do
+  p ← here
+  bs ← bytes n
+  align
+  give (blob-load (p / 8) bs)
+
 unfoldable pub load : ℕ → Payload → Reader No Load
 load left none = give no-load
 load left (array k) = do
@@ -239,10 +247,7 @@ load left (array k) = do
 load left blob = do
   n ← vbr 6
   align
-  p ← here
-  bs ← bytes n
-  align
-  give (blob-load (p / 8) bs)
+  blob-bytes n
 
 pub record Loads (c : Cursor) (s : List ℕ) (m : Reader No Load) (ops ops′ : List ℕ) (r r′ : RecordRead) (d : Cursor) : Type 0 where
   pub load-read : Load
@@ -259,19 +264,32 @@ Loaded c s m ops ops′ r (G.Refused n x y) = Off m s (c .end) (c .at) (no n x y
 -- a record's event: the marks behind it, or no room
 abbrev pub Tells : Frame → Marks → RecordRead → ℕ → List ℕ → List ℕ → Step → Type 0
 Tells f m r at ev ev′ (S.Go m′) =
-    (m′ ≡ marks at (m .events + 8) (r .fill) (m .shared) (m .local)) × (m .events + 8 ≤ length ev)
-    × (take (m .events + 8) ev′ ≡ take (m .events) ev ++ entry (record-event (f .number) (r .code) (m .operands) (r .count) (r .kind) (r .at) (r .length)))
-Tells f m r at ev ev′ (S.No x) = (refusalOf x ≡ refusal 18 (m .at) 0 0) × (length ev - m .events < 8)
+    (m′ ≡ marks at (m .events + event-size) (r .fill) (m .shared) (m .local)) × (m .events + event-size ≤ length ev)
+    × (take (m .events + event-size) ev′ ≡ take (m .events) ev ++ entry (record-event (f .number) (r .code) (m .operands) (r .count) (r .kind) (r .at) (r .length)))
+Tells f m r at ev ev′ (S.No x) = (refusalOf x ≡ refusal 18 (m .at) 0 0) × (length ev - m .events < event-size)
 Tells f m r at ev ev′ (S.Into m′ b w n) = ⊥
 Tells f m r at ev ev′ (S.End m′) = ⊥
 
--- ---- a head whose body fits
+-- ---- a head whose body fits, and its parts from the back
+unfoldable pub head-length : ℕ → ℕ → Reader No Head
+head-length b w = do
+  n ← read 32
+  p ← here
+  fits (head b w (p / 8) (4 * n))
+  give (head b w (p / 8) (4 * n))
+
+unfoldable pub head-width : ℕ → Reader No Head
+head-width b = do
+  w ← vbr 4
+  align
+  head-length b w
+
 unfoldable pub head-fits : Reader No Head
 head-fits = do
   h ← heading
   fits h
   give h
 
-abbrev pub HeadIs : Cursor → List ℕ → HeadRead → Type 0
-HeadIs c s (H.At b w n d) = At head-fits s (c .end) (c .at) (head b w (d .at / 8) n) d × (d .at + 8 * n ≤ limit s (c .end))
-HeadIs c s (H.Refused n x y) = Off head-fits s (c .end) (c .at) (no n x y)
+abbrev pub Heads : Cursor → List ℕ → Reader No Head → HeadRead → Type 0
+Heads c s m (H.At b w n d) = At m s (c .end) (c .at) (head b w (d .at / 8) n) d × (d .at + 8 * n ≤ limit s (c .end))
+Heads c s m (H.Refused n x y) = Off m s (c .end) (c .at) (no n x y)

@@ -6,7 +6,10 @@ use abbrev::BlockNumber;
 use abbrev::Defined;
 use abbrev::Info;
 use abbrev::LOCAL;
+use abbrev::ROW;
+use abbrev::ROWS;
 use abbrev::Row;
+use abbrev::SLOTS;
 use bitcode::Parsed;
 use bitcode::ScalarOperand;
 use bitcode::Signature;
@@ -21,6 +24,7 @@ use terms::INVALID_ABBREV;
 use terms::MAX_INPUT;
 use terms::MAX_LOCAL;
 use terms::MAX_OPEN;
+use terms::MAX_SHARED;
 use terms::MISSING_END_BLOCK;
 use terms::NO_ABBREVIATION_ROOM;
 use terms::NO_EVENT_ROOM;
@@ -29,15 +33,16 @@ use terms::TOO_DEEP;
 ghost use mathlib.Core.Path.{_≡_};
 ghost use mathlib.Core.List.{List, [], _∷_, _++_};
 ghost use mathlib.Core.Bool.{true, false};
-ghost use Prim.Native.Nat.{ℕ, _+_, _-_, _*_, _/_, _≤_, _<_};
+ghost use Prim.Native.Nat.{ℕ, _+_, _-_, _*_, _/_, _%_, _≤_, _<_};
 ghost use lib.ListN.{length, take, replicate};
+ghost use Rattle.terms.specs.Limits.{event-size};
 ghost use Rattle.terms.specs.Refusals.{refusal};
 ghost use Rattle.bits.specs.Bits.{limit};
 ghost use Rattle.abbrev.specs.Abbrev.{array, blob};
 ghost use Rattle.abbrev.specs.Tables.{Tables, tables, slots, slot, abbrev-of, Whole, Kept, Below};
 ghost use Rattle.walk.specs.Record.{repeated, values, array-kind};
 ghost use Rattle.walk.specs.Walk.{listed as listedIn, walked};
-ghost use Rattle.walk.specs.Contracts.{entryOf, frame, marks, refusalOf, Sits, Behind, Does, openingOf, numberedOf, headedAt, Is, Runs, Recorded, plain, abbreviated, load, Loaded, HeadIs, Tells, Streams, Denies, Accepts, answer};
+ghost use Rattle.walk.specs.Contracts.{entryOf, frame, marks, refusalOf, Sits, Behind, Does, openingOf, numberedOf, headedAt, Is, Runs, Recorded, plain, abbreviated, load, Loaded, blob-bytes, head-length, head-width, head-fits, Heads, Tells, Streams, Denies, Accepts, answer};
 
 // The number that records of the top level carry.
 const TOP_LEVEL_BLOCK_ID: u64 = 0xFFFF_FFFF;
@@ -178,8 +183,8 @@ impl Marks {
 
     // The same with an event more, at another bit.
     fn told(self, at: u64) -> Marks
-        requires { ⌜ self .events + 8 < 18446744073709551616 ⌝ }
-        ensures { λ r. ⌜ r ≡ marks at (self .events + 8) (self .operands) (self .shared) (self .local) ⌝ }
+        requires { ⌜ self .events + event-size < 18446744073709551616 ⌝ }
+        ensures { λ r. ⌜ r ≡ marks at (self .events + event-size) (self .operands) (self .shared) (self .local) ⌝ }
     {
         Marks {
             at,
@@ -205,8 +210,8 @@ impl Marks {
 
     // The same behind a record, with an event more and another fill mark of the operand store.
     fn recorded(self, at: u64, fill: usize) -> Marks
-        requires { ⌜ self .events + 8 < 18446744073709551616 ⌝ }
-        ensures { λ r. ⌜ r ≡ marks at (self .events + 8) fill (self .shared) (self .local) ⌝ }
+        requires { ⌜ self .events + event-size < 18446744073709551616 ⌝ }
+        ensures { λ r. ⌜ r ≡ marks at (self .events + event-size) fill (self .shared) (self .local) ⌝ }
     {
         Marks {
             at,
@@ -261,8 +266,8 @@ fn block_entry(kind: u64, block: u64, width: u64, start: u64, length: u64) -> En
 
 // Writes one event's numbers.
 fn put_event(events: &mut [u64], at: usize, e: Entry)
-    requires { ⌜ at + 8 ≤ length (now events) ⌝ }
-    ensures { λ _. ⌜ take (at + 8) (now (events .exit)) ≡ take at (now (events .entry)) ++ entryOf e ⌝ }
+    requires { ⌜ at + event-size ≤ length (now events) ⌝ }
+    ensures { λ _. ⌜ take (at + event-size) (now (events .exit)) ≡ take at (now (events .entry)) ++ entryOf e ⌝ }
 {
     events[at] = e.kind;
     events[at + 1] = e.block;
@@ -355,8 +360,8 @@ fn read_unabbreviated(c: Cursor, s: &[u8], operands: &mut [u64], fill: usize) ->
 fn fill_values(
     c0: Cursor,
     s: &[u8],
-    kinds: &[u8; 2178],
-    widths: &[u64; 2178],
+    kinds: &[u8; SLOTS],
+    widths: &[u64; SLOTS],
     from: usize,
     count: usize,
     rest: &mut [u64],
@@ -425,7 +430,31 @@ fn read_array(c: Cursor, s: &[u8], k: ScalarOperand, operands: &mut [u64], r: Re
     }
 }
 
-// A blob: its length, vbr6, to a multiple of 32 bits, its bytes, and to a multiple of 32 bits.
+// A blob's bytes, from a byte's first bit on, and to a multiple of 32 bits.
+fn read_blob_bytes(c: Cursor, s: &[u8], n: u64, r: RecordRead) -> Got
+    requires { ⌜ c .at % 8 ≡ 0 ⌝ }
+    ensures { λ t. ⌜ ((ops : List ℕ) → r .fill ≤ length ops → Loaded c (now (s .entry)) (blob-bytes n) ops ops r t) ⌝ }
+{
+    match c.skip_bytes(s, n) {
+        Move::Stays(_) => Got::Refused(BUFFER_OVERFLOW, 0, 0),
+        Move::To(d) => match d.align32(s) {
+            Move::Stays(e) => Got::Refused(e, 0, 0),
+            Move::To(g) => Got::Of(
+                RecordRead {
+                    code: r.code,
+                    count: r.count,
+                    kind: 3,
+                    at: c.at / 8,
+                    length: n,
+                    fill: r.fill,
+                },
+                g,
+            ),
+        },
+    }
+}
+
+// A blob: its length, vbr6, to a multiple of 32 bits, and its bytes.
 fn read_blob(c: Cursor, s: &[u8], r: RecordRead) -> Got
     ensures { λ t. ⌜ ((left : ℕ) (ops : List ℕ) → r .fill ≤ length ops → Loaded c (now (s .entry)) (load left blob) ops ops r t) ⌝ }
 {
@@ -433,33 +462,17 @@ fn read_blob(c: Cursor, s: &[u8], r: RecordRead) -> Got
         Read::Refused(e) => Got::Refused(e, 0, 0),
         Read::Value(n, d) => match d.align32(s) {
             Move::Stays(e) => Got::Refused(e, 0, 0),
-            Move::To(g) => match g.skip_bytes(s, n) {
-                Move::Stays(_) => Got::Refused(BUFFER_OVERFLOW, 0, 0),
-                Move::To(h) => match h.align32(s) {
-                    Move::Stays(e) => Got::Refused(e, 0, 0),
-                    Move::To(k) => Got::Of(
-                        RecordRead {
-                            code: r.code,
-                            count: r.count,
-                            kind: 3,
-                            at: g.at / 8,
-                            length: n,
-                            fill: r.fill,
-                        },
-                        k,
-                    ),
-                },
-            },
+            Move::To(g) => read_blob_bytes(g, s, n, r),
         },
     }
 }
 
-// A record by an abbreviation: n scalars from `base` on, and the payload l.
+// A record by the abbreviation of a row: its slots begin at `base`.
 fn read_abbreviated(
     c: Cursor,
     s: &[u8],
-    kinds: &[u8; 2178],
-    widths: &[u64; 2178],
+    kinds: &[u8; SLOTS],
+    widths: &[u64; SLOTS],
     base: usize,
     shape: u64,
     operands: &mut [u64],
@@ -508,9 +521,37 @@ fn read_abbreviated(
     }
 }
 
+// The end of a head: the body's length in words; the body must lie within the parent.
+fn read_body_length(c: Cursor, s: &[u8], b: u64, w: u64) -> HeadRead
+    ensures { λ r. ⌜ Heads c (now (s .entry)) (head-length b w) r ⌝ }
+{
+    match c.read(s, 32) {
+        Read::Refused(e) => HeadRead::Refused(e, 0, 0),
+        Read::Value(n, d) => {
+            if d.unconsumed_bit_len(s) / 32 < n {
+                return HeadRead::Refused(BUFFER_OVERFLOW, 0, 0);
+            }
+            HeadRead::At(b, w, 4 * n, d)
+        }
+    }
+}
+
+// A head behind its block number: width, vbr4, to a multiple of 32 bits, and the body's length.
+fn read_head_width(c: Cursor, s: &[u8], b: u64) -> HeadRead
+    ensures { λ r. ⌜ Heads c (now (s .entry)) (head-width b) r ⌝ }
+{
+    match c.read_vbr(s, 4) {
+        Read::Refused(e) => HeadRead::Refused(e, 0, 0),
+        Read::Value(w, d) => match d.align32(s) {
+            Move::Stays(e) => HeadRead::Refused(e, 0, 0),
+            Move::To(g) => read_body_length(g, s, b, w),
+        },
+    }
+}
+
 // A block's head, whose body lies within its parent.
 fn read_head(c: Cursor, s: &[u8]) -> HeadRead
-    ensures { λ r. ⌜ HeadIs c (now (s .entry)) r ⌝ }
+    ensures { λ r. ⌜ Heads c (now (s .entry)) head-fits r ⌝ }
 {
     match c.read_vbr(s, 8) {
         Read::Refused(e) => HeadRead::Refused(e, 0, 0),
@@ -518,21 +559,7 @@ fn read_head(c: Cursor, s: &[u8]) -> HeadRead
             if 0x1_0000_0000 <= b {
                 return HeadRead::Refused(BLOCK_NUMBER_TOO_LARGE, b, 0);
             }
-            match d.read_vbr(s, 4) {
-                Read::Refused(e) => HeadRead::Refused(e, 0, 0),
-                Read::Value(w, g) => match g.align32(s) {
-                    Move::Stays(e) => HeadRead::Refused(e, 0, 0),
-                    Move::To(h) => match h.read(s, 32) {
-                        Read::Refused(e) => HeadRead::Refused(e, 0, 0),
-                        Read::Value(n, k) => {
-                            if k.unconsumed_bit_len(s) / 32 < n {
-                                return HeadRead::Refused(BUFFER_OVERFLOW, 0, 0);
-                            }
-                            HeadRead::At(b, w, 4 * n, k)
-                        }
-                    },
-                },
-            }
+            read_head_width(d, s, b)
         }
     }
 }
@@ -587,10 +614,10 @@ fn read_info(
     w: u64,
     n: u64,
     g: Cursor,
-    kinds: &mut [u8; 2178],
-    widths: &mut [u64; 2178],
-    shapes: &mut [u64; 66],
-    owners: &mut [u64; 32],
+    kinds: &mut [u8; SLOTS],
+    widths: &mut [u64; SLOTS],
+    shapes: &mut [u64; ROWS],
+    owners: &mut [u64; MAX_SHARED],
 ) -> Step
     requires { ⌜ Whole (tables (now kinds) (now widths) (now shapes) (now owners)) ⌝ }
     requires { ⌜ (m .shared ≤ 32) × (f .base ≤ m .local) × (m .local ≤ 32) × (g .at + 8 * n ≤ 18446744073709551615) ⌝ }
@@ -643,10 +670,10 @@ fn enter_sub_block(
     f: Frame,
     m: Marks,
     d: Cursor,
-    kinds: &mut [u8; 2178],
-    widths: &mut [u64; 2178],
-    shapes: &mut [u64; 66],
-    owners: &mut [u64; 32],
+    kinds: &mut [u8; SLOTS],
+    widths: &mut [u64; SLOTS],
+    shapes: &mut [u64; ROWS],
+    owners: &mut [u64; MAX_SHARED],
     events: &mut [u64],
 ) -> Step
     requires { ⌜ Whole (tables (now kinds) (now widths) (now shapes) (now owners)) ⌝ }
@@ -674,9 +701,9 @@ fn define_local(
     f: Frame,
     m: Marks,
     d: Cursor,
-    kinds: &mut [u8; 2178],
-    widths: &mut [u64; 2178],
-    shapes: &mut [u64; 66],
+    kinds: &mut [u8; SLOTS],
+    widths: &mut [u64; SLOTS],
+    shapes: &mut [u64; ROWS],
 ) -> Step
     requires { ⌜ (length (now kinds) ≡ 2178) × (length (now widths) ≡ 2178) × (length (now shapes) ≡ 66) ⌝ }
     requires { ⌜ (m .shared ≤ 32) × (f .base ≤ m .local) × (m .local ≤ 32) × Behind f d ⌝ }
@@ -748,9 +775,9 @@ fn record_abbreviated(
     own: &[u8],
     n: u64,
     d: Cursor,
-    kinds: &[u8; 2178],
-    widths: &[u64; 2178],
-    shapes: &[u64; 66],
+    kinds: &[u8; SLOTS],
+    widths: &[u64; SLOTS],
+    shapes: &[u64; ROWS],
     events: &mut [u64],
     operands: &mut [u64],
 ) -> Step
@@ -766,7 +793,7 @@ fn record_abbreviated(
             s,
             kinds,
             widths,
-            33 * row,
+            ROW * row,
             shapes[row],
             operands,
             fill,
@@ -784,17 +811,17 @@ fn try_next(
     f: Frame,
     m: Marks,
     own: &[u8],
-    kinds: &mut [u8; 2178],
-    widths: &mut [u64; 2178],
-    shapes: &mut [u64; 66],
-    owners: &mut [u64; 32],
-    events: &mut [u64],
-    operands: &mut [u64],
+    kinds: &mut [u8; SLOTS],
+    widths: &mut [u64; SLOTS],
+    shapes: &mut [u64; ROWS],
+    owners: &mut [u64; MAX_SHARED],
+    ev: &mut [u64],
+    ops: &mut [u64],
 ) -> Step
     requires { ⌜ Whole (tables (now kinds) (now widths) (now shapes) (now owners)) ⌝ }
-    requires { ⌜ Sits (length (now events)) (length (now operands)) f m × Below (m .shared) (now own) ⌝ }
+    requires { ⌜ Sits (length (now ev)) (length (now ops)) f m × Below (m .shared) (now own) ⌝ }
     ensures kept { λ r. ⌜ Kept (m .shared) (m .local) (tables (now (kinds .entry)) (now (widths .entry)) (now (shapes .entry)) (now (owners .entry))) (tables (now (kinds .exit)) (now (widths .exit)) (now (shapes .exit)) (now (owners .exit))) ⌝ }
-    ensures does { λ r. ⌜ Does (now (s .entry)) (now (skip .entry)) f m (now (own .entry)) (tables (now (kinds .entry)) (now (widths .entry)) (now (shapes .entry)) (now (owners .entry))) (tables (now (kinds .exit)) (now (widths .exit)) (now (shapes .exit)) (now (owners .exit))) (now (events .entry)) (now (events .exit)) (now (operands .entry)) (now (operands .exit)) (openingOf (now (s .entry)) f m (now (own .entry)) (tables (now (kinds .entry)) (now (widths .entry)) (now (shapes .entry)) (now (owners .entry))) (length (now (events .entry))) (length (now (operands .entry)))) r ⌝ }
+    ensures does { λ r. ⌜ Does (now (s .entry)) (now (skip .entry)) f m (now (own .entry)) (tables (now (kinds .entry)) (now (widths .entry)) (now (shapes .entry)) (now (owners .entry))) (tables (now (kinds .exit)) (now (widths .exit)) (now (shapes .exit)) (now (owners .exit))) (now (ev .entry)) (now (ev .exit)) (now (ops .entry)) (now (ops .exit)) (openingOf (now (s .entry)) f m (now (own .entry)) (tables (now (kinds .entry)) (now (widths .entry)) (now (shapes .entry)) (now (owners .entry))) (length (now (ev .entry))) (length (now (ops .entry)))) r ⌝ }
 {
     let c = Cursor {
         at: m.at,
@@ -806,11 +833,11 @@ fn try_next(
     match abbrev::read_number(c, s, f.width) {
         Read::Refused(e) => Step::No(refuse(e, m.at, 0, 0)),
         Read::Value(n, d) => match n {
-            0 => leave(s, f, m, d, events),
-            1 => enter_sub_block(s, skip, f, m, d, kinds, widths, shapes, owners, events),
+            0 => leave(s, f, m, d, ev),
+            1 => enter_sub_block(s, skip, f, m, d, kinds, widths, shapes, owners, ev),
             2 => define_local(s, f, m, d, kinds, widths, shapes),
-            3 => record_plain(s, f, m, d, events, operands),
-            _ => record_abbreviated(s, f, m, own, n, d, kinds, widths, shapes, events, operands),
+            3 => record_plain(s, f, m, d, ev, ops),
+            _ => record_abbreviated(s, f, m, own, n, d, kinds, widths, shapes, ev, ops),
         },
     }
 }
@@ -822,53 +849,30 @@ fn visit_block(
     skip: &[u64],
     f: Frame,
     m: Marks,
-    kinds: &mut [u8; 2178],
-    widths: &mut [u64; 2178],
-    shapes: &mut [u64; 66],
-    owners: &mut [u64; 32],
-    events: &mut [u64],
-    operands: &mut [u64],
+    kinds: &mut [u8; SLOTS],
+    widths: &mut [u64; SLOTS],
+    shapes: &mut [u64; ROWS],
+    owners: &mut [u64; MAX_SHARED],
+    ev: &mut [u64],
+    ops: &mut [u64],
 ) -> Done
     requires { ⌜ Whole (tables (now kinds) (now widths) (now shapes) (now owners)) ⌝ }
-    requires { ⌜ Sits (length (now events)) (length (now operands)) f m × (m .local ≡ f .base) ⌝ }
+    requires { ⌜ Sits (length (now ev)) (length (now ops)) f m × (m .local ≡ f .base) ⌝ }
     ensures kept { λ r. ⌜ Kept (m .shared) (m .local) (tables (now (kinds .entry)) (now (widths .entry)) (now (shapes .entry)) (now (owners .entry))) (tables (now (kinds .exit)) (now (widths .exit)) (now (shapes .exit)) (now (owners .exit))) ⌝ }
-    ensures is { λ r. ⌜ Is (now (s .entry)) (now (skip .entry)) f m (tables (now (kinds .entry)) (now (widths .entry)) (now (shapes .entry)) (now (owners .entry))) (tables (now (kinds .exit)) (now (widths .exit)) (now (shapes .exit)) (now (owners .exit))) (now (events .entry)) (now (events .exit)) (now (operands .entry)) (now (operands .exit)) r ⌝ }
+    ensures is { λ r. ⌜ Is (now (s .entry)) (now (skip .entry)) f m (tables (now (kinds .entry)) (now (widths .entry)) (now (shapes .entry)) (now (owners .entry))) (tables (now (kinds .exit)) (now (widths .exit)) (now (shapes .exit)) (now (owners .exit))) (now (ev .entry)) (now (ev .exit)) (now (ops .entry)) (now (ops .exit)) r ⌝ }
 {
-    let mut rows = [0u8; 32];
+    let mut rows = [0u8; MAX_SHARED];
     let many = abbrev::shared_rows(BlockNumber(f.number), owners, m.shared, &mut rows);
     let own = &rows[0..many];
     let mut st = m;
     loop {
-        match try_next(
-            s,
-            skip,
-            f,
-            st,
-            own,
-            kinds,
-            widths,
-            shapes,
-            owners,
-            events,
-            operands,
-        ) {
+        match try_next(s, skip, f, st, own, kinds, widths, shapes, owners, ev, ops) {
             Step::Go(t) => {
                 st = t;
             }
             Step::Into(t, b, w, n) => {
                 let inner = f.inside(t, b, w, n);
-                match visit_block(
-                    s,
-                    skip,
-                    inner,
-                    t,
-                    kinds,
-                    widths,
-                    shapes,
-                    owners,
-                    events,
-                    operands,
-                ) {
+                match visit_block(s, skip, inner, t, kinds, widths, shapes, owners, ev, ops) {
                     Done::Go(u) => {
                         st = u.behind(t.at + 8 * n);
                     }

@@ -1,8 +1,8 @@
--- `walk::read_blob` meets its contract: a blob's length, its bytes between two alignments, and its place. Assumes nothing.
-use borrow.Author.Needs.{needs}
+-- `walk::read_blob` meets its contract: a blob's length, the alignment behind it, and its bytes. Assumes nothing.
 use Rattle.bits.proofs.Steps.{off, then-off}
 use Rattle.walk.specs.Contracts.{load}
-use Rattle.walk.proofs.Records.{blob-loads, blob-short, blob-unaligned}
+use Rattle.walk.proofs.Records.{aligned, loads-behind}
+use borrow.Author.Needs.{needs}
 use Rattle.walk.proofs.read_blob.Statement.{statement}
 use Rattle.walk.proofs.read_blob.Tie as tie
 
@@ -24,40 +24,26 @@ enum-known-e-2 c = search needs
 enum-known-g : tie.Need-enum-known-g
 enum-known-g c = search needs
 
-skip-bytes-requires : tie.Need-skip-bytes-requires
-skip-bytes-requires c κs = search needs
-
-enum-told : tie.Need-enum-told
-enum-told c = search needs
-
-enum-known-h : tie.Need-enum-known-h
-enum-known-h c = search needs
-
-align32-requires-2 : tie.Need-align32-requires-2
-align32-requires-2 c κs = search needs
-
-enum-known-e-3 : tie.Need-enum-known-e-3
-enum-known-e-3 c = search needs
-
-enum-known-k : tie.Need-enum-known-k
-enum-known-k c = search needs
+read-blob-bytes-requires : tie.Need-read-blob-bytes-requires
+read-blob-bytes-requires c κs =
+    aligned (rw (c .before .g .given .1) at (c .before .before .before .align32 .ensures))
 
 returns : tie.Need-returns
 unfolding load
-returns c = λ left ops h. off _ (rw (c .before .e .given .1) at (c .before .before .before .read-vbr .ensures))
+returns c =
+    λ left ops h. off _ (rw (c .before .e .given .1) at (c .before .before .before .read-vbr .ensures))
 
 returns-2 : tie.Need-returns-2
 unfolding load
-returns-2 c = λ left ops h. then-off _ (rw (c .before .before .before .before .before .n .given .1) at (c .before .before .before .before .before .before .before .read-vbr .ensures)) (off _ (rw (c .before .e2 .given .1) at (c .before .before .before .align32 .ensures)))
+returns-2 c =
+    λ left ops h. then-off _ (rw (c .before .before .before .before .before .n .given .1) at (c .before .before .before .before .before .before .before .read-vbr .ensures)) (off _ (rw (c .before .e2 .given .1) at (c .before .before .before .align32 .ensures)))
 
 returns-3 : tie.Need-returns-3
-returns-3 c = λ left ops h. blob-short left (rw (c .before .before .before .before .before .before .before .before .n .given .1) at (c .before .before .before .before .before .before .before .before .before .before .read-vbr .ensures)) (rw (c .before .before .before .before .g .given .1) at (c .before .before .before .before .before .before .align32 .ensures)) (rw (c .enum-told .given .1) at (c .before .before .skip-bytes .ensures))
-
-returns-4 : tie.Need-returns-4
-returns-4 c = λ left ops h. blob-unaligned left (rw (c .before .before .before .before .before .before .before .before .before .before .before .before .before .n .given .1) at (c .before .before .before .before .before .before .before .before .before .before .before .before .before .before .before .read-vbr .ensures)) (rw (c .before .before .before .before .before .before .before .before .before .g .given .1) at (c .before .before .before .before .before .before .before .before .before .before .before .align32 .ensures)) (rw (c .before .before .before .before .before .h .given .1) at (c .before .before .before .before .before .before .before .skip-bytes .ensures)) (rw (c .before .e3 .given .1) at (c .before .before .before .align322 .ensures))
-
-returns-5 : tie.Need-returns-5
-returns-5 c = λ left ops h. blob-loads left (rw (c .before .before .before .before .before .before .before .before .before .before .before .before .before .before .n .given .1) at (c .before .before .before .before .before .before .before .before .before .before .before .before .before .before .before .before .read-vbr .ensures)) (rw (c .before .before .before .before .before .before .before .before .before .before .g .given .1) at (c .before .before .before .before .before .before .before .before .before .before .before .before .align32 .ensures)) ops _ h (rw (c .before .before .before .before .before .before .h .given .1) at (c .before .before .before .before .before .before .before .before .skip-bytes .ensures)) (rw (c .before .before .k .given .1) at (c .before .before .before .before .align322 .ensures))
+unfolding load
+returns-3 c =
+    λ left ops h.
+    loads-behind _ ops ops _ (c .read-blob-bytes .result) (rw (c .before .before .before .before .before .before .n .given .1) at (c .before .before .before .before .before .before .before .before .read-vbr .ensures))
+    (loads-behind _ ops ops _ (c .read-blob-bytes .result) (rw (c .before .before .g .given .1) at (c .before .before .before .before .align32 .ensures)) (c .read-blob-bytes .ensures ops h))
 
 pub read-blob-spec : {M : Type 1} → statement M
 read-blob-spec =
@@ -69,14 +55,7 @@ read-blob-spec =
     align32-requires
     enum-known-e-2
     enum-known-g
-    skip-bytes-requires
-    enum-told
-    enum-known-h
-    align32-requires-2
-    enum-known-e-3
-    enum-known-k
+    read-blob-bytes-requires
     returns
     returns-2
-    returns-3
-    returns-4
-    returns-5)
+    returns-3)

@@ -26,7 +26,7 @@ unfolding ends-at
 returns c =
     let a = c .before .before .before .before .before .before .before .before .args in
     let p = c .before .before .before .before .before .before .before .before .pre in
-    (kept-refl _ _ _, c .end-of .ensures (now (a .s)) (now (a .skip)) (now (a .own)) (now (a .events)) (now (a .operands)) (tables (now (a .kinds)) (now (a .widths)) (now (a .shapes)) (now (a .owners))) (p .1 .0) (leb-true _ _ (sym (c .before .before .is-at-end .ensures) ∙ c .before .if1 .taken)))
+    (kept-refl _ _ _, c .end-of .ensures (now (a .s)) (now (a .skip)) (now (a .own)) (now (a .ev)) (now (a .ops)) (tables (now (a .kinds)) (now (a .widths)) (now (a .shapes)) (now (a .owners))) (p .1 .0) (leb-true _ _ (sym (c .before .before .is-at-end .ensures) ∙ c .before .if1 .taken)))
 
 read-number-requires : tie.Need-read-number-requires
 read-number-requires c κs = search needs
@@ -90,9 +90,9 @@ returns-3 c =
     let p = c .before .before .before .before .before .before .before .before .before .before .before .before .before .before .before .before .pre in
     let x = rw (c .before .before .before .before .before .before .n .given .1) at (c .before .before .before .before .before .before .before .before .read-number .ensures) in
     let under = leb-false (limit (now (a .s)) (a .f .end)) (a .m .at) (sym (c .before .before .before .before .before .before .before .before .before .before .is-at-end .ensures) ∙ c .before .before .before .before .before .before .before .before .before .if1 .left) in
-    let o = open-number (context (a .f)) (stateOf (a .f) (a .m) (now (a .own)) (tables (now (a .kinds)) (now (a .widths)) (now (a .shapes)) (now (a .owners))) (length (now (a .events))) (length (now (a .operands)))) (now (a .s)) (a .f .end) (a .m .at) under (x .gives)
-    ∙ ap (λ i. numberedOf (now (a .s)) (a .f) (a .m) (now (a .own)) (tables (now (a .kinds)) (now (a .widths)) (now (a .shapes)) (now (a .owners))) (length (now (a .events))) (length (now (a .operands))) i (c .before .before .before .before .before .before .n .given .0 .1 .0)) (c .before .before .before .before .match2 .keys1) in
-    (kept-refl _ _ _, does-as (now (a .s)) (now (a .skip)) (a .f) (a .m) (now (a .own)) (tables (now (a .kinds)) (now (a .widths)) (now (a .shapes)) (now (a .owners))) (tables (now (a .kinds)) (now (a .widths)) (now (a .shapes)) (now (a .owners))) (now (a .events)) _ (now (a .operands)) (now (a .operands)) (c .before .before .leave .result) o (c .before .before .leave .ensures (now (a .skip)) (now (a .own)) (now (a .operands)) (tables (now (a .kinds)) (now (a .widths)) (now (a .shapes)) (now (a .owners))) (p .1 .0)))
+    let o = open-number (context (a .f)) (stateOf (a .f) (a .m) (now (a .own)) (tables (now (a .kinds)) (now (a .widths)) (now (a .shapes)) (now (a .owners))) (length (now (a .ev))) (length (now (a .ops)))) (now (a .s)) (a .f .end) (a .m .at) under (x .gives)
+    ∙ ap (λ i. numberedOf (now (a .s)) (a .f) (a .m) (now (a .own)) (tables (now (a .kinds)) (now (a .widths)) (now (a .shapes)) (now (a .owners))) (length (now (a .ev))) (length (now (a .ops))) i (c .before .before .before .before .before .before .n .given .0 .1 .0)) (c .before .before .before .before .match2 .keys1) in
+    (kept-refl _ _ _, does-as (now (a .s)) (now (a .skip)) (a .f) (a .m) (now (a .own)) (tables (now (a .kinds)) (now (a .widths)) (now (a .shapes)) (now (a .owners))) (tables (now (a .kinds)) (now (a .widths)) (now (a .shapes)) (now (a .owners))) (now (a .ev)) _ (now (a .ops)) (now (a .ops)) (c .before .before .leave .result) o (c .before .before .leave .ensures (now (a .skip)) (now (a .own)) (now (a .ops)) (tables (now (a .kinds)) (now (a .widths)) (now (a .shapes)) (now (a .owners))) (p .1 .0)))
 
 same-length-2 : tie.Need-same-length-2
 same-length-2 c = search needs
@@ -104,9 +104,9 @@ returns-4 c =
     let p = c .before .before .before .before .before .before .before .before .before .before .before .before .before .before .before .before .before .before .before .before .pre in
     let x = rw (c .before .before .before .before .before .before .before .before .before .before .n .given .1) at (c .before .before .before .before .before .before .before .before .before .before .before .before .read-number .ensures) in
     let under = leb-false (limit (now (a .s)) (a .f .end)) (a .m .at) (sym (c .before .before .before .before .before .before .before .before .before .before .before .before .before .before .is-at-end .ensures) ∙ c .before .before .before .before .before .before .before .before .before .before .before .before .before .if1 .left) in
-    let o = open-number (context (a .f)) (stateOf (a .f) (a .m) (now (a .own)) (tables (now (a .kinds)) (now (a .widths)) (now (a .shapes)) (now (a .owners))) (length (now (a .events))) (length (now (a .operands)))) (now (a .s)) (a .f .end) (a .m .at) under (x .gives)
-    ∙ ap (λ i. numberedOf (now (a .s)) (a .f) (a .m) (now (a .own)) (tables (now (a .kinds)) (now (a .widths)) (now (a .shapes)) (now (a .owners))) (length (now (a .events))) (length (now (a .operands))) i (c .before .before .before .before .before .before .before .before .before .before .n .given .0 .1 .0)) (c .before .before .before .before .before .before .before .before .match2 .keys2) in
-    (c .before .before .enter-sub-block .ensures .0, does-as (now (a .s)) (now (a .skip)) (a .f) (a .m) (now (a .own)) (tables (now (a .kinds)) (now (a .widths)) (now (a .shapes)) (now (a .owners))) _ (now (a .events)) _ (now (a .operands)) (now (a .operands)) (c .before .before .enter-sub-block .result) o (c .before .before .enter-sub-block .ensures .1 (now (a .own)) (now (a .operands)) (p .1 .1) (p .1 .0)))
+    let o = open-number (context (a .f)) (stateOf (a .f) (a .m) (now (a .own)) (tables (now (a .kinds)) (now (a .widths)) (now (a .shapes)) (now (a .owners))) (length (now (a .ev))) (length (now (a .ops)))) (now (a .s)) (a .f .end) (a .m .at) under (x .gives)
+    ∙ ap (λ i. numberedOf (now (a .s)) (a .f) (a .m) (now (a .own)) (tables (now (a .kinds)) (now (a .widths)) (now (a .shapes)) (now (a .owners))) (length (now (a .ev))) (length (now (a .ops))) i (c .before .before .before .before .before .before .before .before .before .before .n .given .0 .1 .0)) (c .before .before .before .before .before .before .before .before .match2 .keys2) in
+    (c .before .before .enter-sub-block .ensures .0, does-as (now (a .s)) (now (a .skip)) (a .f) (a .m) (now (a .own)) (tables (now (a .kinds)) (now (a .widths)) (now (a .shapes)) (now (a .owners))) _ (now (a .ev)) _ (now (a .ops)) (now (a .ops)) (c .before .before .enter-sub-block .result) o (c .before .before .enter-sub-block .ensures .1 (now (a .own)) (now (a .ops)) (p .1 .1) (p .1 .0)))
 
 returns-5 : tie.Need-returns-5
 unfolding ends-at
@@ -115,9 +115,9 @@ returns-5 c =
     let p = c .before .before .before .before .before .before .before .before .before .before .before .before .before .before .before .before .pre in
     let x = rw (c .before .before .before .before .before .before .n .given .1) at (c .before .before .before .before .before .before .before .before .read-number .ensures) in
     let under = leb-false (limit (now (a .s)) (a .f .end)) (a .m .at) (sym (c .before .before .before .before .before .before .before .before .before .before .is-at-end .ensures) ∙ c .before .before .before .before .before .before .before .before .before .if1 .left) in
-    let o = open-number (context (a .f)) (stateOf (a .f) (a .m) (now (a .own)) (tables (now (a .kinds)) (now (a .widths)) (now (a .shapes)) (now (a .owners))) (length (now (a .events))) (length (now (a .operands)))) (now (a .s)) (a .f .end) (a .m .at) under (x .gives)
-    ∙ ap (λ i. numberedOf (now (a .s)) (a .f) (a .m) (now (a .own)) (tables (now (a .kinds)) (now (a .widths)) (now (a .shapes)) (now (a .owners))) (length (now (a .events))) (length (now (a .operands))) i (c .before .before .before .before .before .before .n .given .0 .1 .0)) (c .before .before .before .before .match2 .keys3) in
-    (c .define-local .ensures .0 (now (a .owners)), does-as (now (a .s)) (now (a .skip)) (a .f) (a .m) (now (a .own)) (tables (now (a .kinds)) (now (a .widths)) (now (a .shapes)) (now (a .owners))) _ (now (a .events)) (now (a .events)) (now (a .operands)) (now (a .operands)) (c .define-local .result) o (c .define-local .ensures .1 (now (a .skip)) (now (a .own)) (now (a .events)) (now (a .operands)) (now (a .owners)) (p .1 .1) (p .1 .0)))
+    let o = open-number (context (a .f)) (stateOf (a .f) (a .m) (now (a .own)) (tables (now (a .kinds)) (now (a .widths)) (now (a .shapes)) (now (a .owners))) (length (now (a .ev))) (length (now (a .ops)))) (now (a .s)) (a .f .end) (a .m .at) under (x .gives)
+    ∙ ap (λ i. numberedOf (now (a .s)) (a .f) (a .m) (now (a .own)) (tables (now (a .kinds)) (now (a .widths)) (now (a .shapes)) (now (a .owners))) (length (now (a .ev))) (length (now (a .ops))) i (c .before .before .before .before .before .before .n .given .0 .1 .0)) (c .before .before .before .before .match2 .keys3) in
+    (c .define-local .ensures .0 (now (a .owners)), does-as (now (a .s)) (now (a .skip)) (a .f) (a .m) (now (a .own)) (tables (now (a .kinds)) (now (a .widths)) (now (a .shapes)) (now (a .owners))) _ (now (a .ev)) (now (a .ev)) (now (a .ops)) (now (a .ops)) (c .define-local .result) o (c .define-local .ensures .1 (now (a .skip)) (now (a .own)) (now (a .ev)) (now (a .ops)) (now (a .owners)) (p .1 .1) (p .1 .0)))
 
 same-length-3 : tie.Need-same-length-3
 same-length-3 c = search needs
@@ -132,9 +132,9 @@ returns-6 c =
     let p = c .before .before .before .before .before .before .before .before .before .before .before .before .before .before .before .before .before .before .before .pre in
     let x = rw (c .before .before .before .before .before .before .before .before .before .n .given .1) at (c .before .before .before .before .before .before .before .before .before .before .before .read-number .ensures) in
     let under = leb-false (limit (now (a .s)) (a .f .end)) (a .m .at) (sym (c .before .before .before .before .before .before .before .before .before .before .before .before .before .is-at-end .ensures) ∙ c .before .before .before .before .before .before .before .before .before .before .before .before .if1 .left) in
-    let o = open-number (context (a .f)) (stateOf (a .f) (a .m) (now (a .own)) (tables (now (a .kinds)) (now (a .widths)) (now (a .shapes)) (now (a .owners))) (length (now (a .events))) (length (now (a .operands)))) (now (a .s)) (a .f .end) (a .m .at) under (x .gives)
-    ∙ ap (λ i. numberedOf (now (a .s)) (a .f) (a .m) (now (a .own)) (tables (now (a .kinds)) (now (a .widths)) (now (a .shapes)) (now (a .owners))) (length (now (a .events))) (length (now (a .operands))) i (c .before .before .before .before .before .before .before .before .before .n .given .0 .1 .0)) (c .before .before .before .before .before .before .before .match2 .keys4) in
-    (kept-refl _ _ _, does-as (now (a .s)) (now (a .skip)) (a .f) (a .m) (now (a .own)) (tables (now (a .kinds)) (now (a .widths)) (now (a .shapes)) (now (a .owners))) (tables (now (a .kinds)) (now (a .widths)) (now (a .shapes)) (now (a .owners))) (now (a .events)) _ (now (a .operands)) _ (c .before .before .before .before .record-plain .result) o (c .before .before .before .before .record-plain .ensures (now (a .skip)) (now (a .own)) (tables (now (a .kinds)) (now (a .widths)) (now (a .shapes)) (now (a .owners)))))
+    let o = open-number (context (a .f)) (stateOf (a .f) (a .m) (now (a .own)) (tables (now (a .kinds)) (now (a .widths)) (now (a .shapes)) (now (a .owners))) (length (now (a .ev))) (length (now (a .ops)))) (now (a .s)) (a .f .end) (a .m .at) under (x .gives)
+    ∙ ap (λ i. numberedOf (now (a .s)) (a .f) (a .m) (now (a .own)) (tables (now (a .kinds)) (now (a .widths)) (now (a .shapes)) (now (a .owners))) (length (now (a .ev))) (length (now (a .ops))) i (c .before .before .before .before .before .before .before .before .before .n .given .0 .1 .0)) (c .before .before .before .before .before .before .before .match2 .keys4) in
+    (kept-refl _ _ _, does-as (now (a .s)) (now (a .skip)) (a .f) (a .m) (now (a .own)) (tables (now (a .kinds)) (now (a .widths)) (now (a .shapes)) (now (a .owners))) (tables (now (a .kinds)) (now (a .widths)) (now (a .shapes)) (now (a .owners))) (now (a .ev)) _ (now (a .ops)) _ (c .before .before .before .before .record-plain .result) o (c .before .before .before .before .record-plain .ensures (now (a .skip)) (now (a .own)) (tables (now (a .kinds)) (now (a .widths)) (now (a .shapes)) (now (a .owners)))))
 
 same-length-5 : tie.Need-same-length-5
 same-length-5 c = search needs
@@ -149,8 +149,8 @@ returns-7 c =
     let p = c .before .before .before .before .before .before .before .before .before .before .before .before .before .before .before .before .before .before .before .before .before .before .pre in
     let x = rw (c .before .before .before .before .before .before .before .before .before .before .before .before .n .given .1) at (c .before .before .before .before .before .before .before .before .before .before .before .before .before .before .read-number .ensures) in
     let under = leb-false (limit (now (a .s)) (a .f .end)) (a .m .at) (sym (c .before .before .before .before .before .before .before .before .before .before .before .before .before .before .before .before .is-at-end .ensures) ∙ c .before .before .before .before .before .before .before .before .before .before .before .before .before .before .before .if1 .left) in
-    let o = open-number (context (a .f)) (stateOf (a .f) (a .m) (now (a .own)) (tables (now (a .kinds)) (now (a .widths)) (now (a .shapes)) (now (a .owners))) (length (now (a .events))) (length (now (a .operands)))) (now (a .s)) (a .f .end) (a .m .at) under (x .gives) in
-    (kept-refl _ _ _, does-as (now (a .s)) (now (a .skip)) (a .f) (a .m) (now (a .own)) (tables (now (a .kinds)) (now (a .widths)) (now (a .shapes)) (now (a .owners))) (tables (now (a .kinds)) (now (a .widths)) (now (a .shapes)) (now (a .owners))) (now (a .events)) _ (now (a .operands)) _ (c .before .before .before .before .record-abbreviated .result) o (c .before .before .before .before .record-abbreviated .ensures (now (a .skip)) (now (a .owners))))
+    let o = open-number (context (a .f)) (stateOf (a .f) (a .m) (now (a .own)) (tables (now (a .kinds)) (now (a .widths)) (now (a .shapes)) (now (a .owners))) (length (now (a .ev))) (length (now (a .ops)))) (now (a .s)) (a .f .end) (a .m .at) under (x .gives) in
+    (kept-refl _ _ _, does-as (now (a .s)) (now (a .skip)) (a .f) (a .m) (now (a .own)) (tables (now (a .kinds)) (now (a .widths)) (now (a .shapes)) (now (a .owners))) (tables (now (a .kinds)) (now (a .widths)) (now (a .shapes)) (now (a .owners))) (now (a .ev)) _ (now (a .ops)) _ (c .before .before .before .before .record-abbreviated .result) o (c .before .before .before .before .record-abbreviated .ensures (now (a .skip)) (now (a .owners))))
 
 pub try-next-spec : {M : Type 1} → statement M
 try-next-spec =
