@@ -16,7 +16,7 @@ use Rattle.bits.proofs.Laws.{and-true}
 use Rattle.bits.proofs.Steps.{arms}
 use Rattle.abbrev.specs.Abbrev.{Abbrev, look-up}
 use Rattle.abbrev.specs.BlockInfo.{shared, shared-for}
-use Rattle.abbrev.specs.Tables.{Tables, tables, abbrev-of, row-of, rows, shareds, block-rows, Outside, Kept, Whole, Below, positions, picked, row-at, ofRow}
+use Rattle.abbrev.specs.Tables.{row-size, first-local, row-count, Tables, tables, abbrev-of, row-of, rows, shareds, block-rows, Outside, Kept, Whole, Below, positions, picked, row-at, ofRow}
 use Rattle.abbrev.specs.declared.Row.the-variants as R
 use Rattle.abbrev.proofs.Rows.{outside-refl, outside-set, abbrev-same}
 
@@ -57,8 +57,8 @@ whole-kept w a =
     }
 
 -- a row that is none of those to be kept was written, with its shape and its owner
-pub kept-row : {have local r : ℕ} {t t′ : Tables} → ((i : ℕ) → i < 33 + local → (have ≤ i → i < 33 → ⊥) → i ≡ r → ⊥)
-    → Outside (33 * r) (33 * r + 33) (t .kinds) (t′ .kinds) → Outside (33 * r) (33 * r + 33) (t .widths) (t′ .widths)
+pub kept-row : {have local r : ℕ} {t t′ : Tables} → ((i : ℕ) → i < first-local + local → (have ≤ i → i < first-local → ⊥) → i ≡ r → ⊥)
+    → Outside (row-size * r) (row-size * r + row-size) (t .kinds) (t′ .kinds) → Outside (row-size * r) (row-size * r + row-size) (t .widths) (t′ .widths)
     → Outside r (r + 1) (t .shapes) (t′ .shapes) → length (t′ .owners) ≡ length (t .owners)
     → ((i : ℕ) → i < have → getD (t′ .owners) i 0 ≡ getD (t .owners) i 0) → Kept have local t t′
 unfolding row-of
@@ -74,48 +74,48 @@ kept-row {have} {local} {r} {t} {t′} other k w sh many own =
   where
     same : (i : ℕ) → (i ≡ r → ⊥) → row-of t′ i ≡ row-of t i
     same i n =
-        ap (abbrev-of (t′ .kinds) (t′ .widths) (33 * i)) (sh .same i (λ x y. n (omega arith)))
-        ∙ abbrev-same k w (33 * i) (getD (t .shapes) i 0) (λ j a b x y. n (omega arith))
+        ap (abbrev-of (t′ .kinds) (t′ .widths) (row-size * i)) (sh .same i (λ x y. n (omega arith)))
+        ∙ abbrev-same k w (row-size * i) (getD (t .shapes) i 0) (λ j a b x y. n (omega arith))
 
 -- a definition is read into the local row behind those in use
 module _ {have local : ℕ} {t : Tables} {kinds′ widths′ : List ℕ} where
-  pub kept-define : Outside (33 * (33 + local)) (33 * (33 + local) + 33) (t .kinds) kinds′
-      → Outside (33 * (33 + local)) (33 * (33 + local) + 33) (t .widths) widths′ → Kept have local t (tables kinds′ widths′ (t .shapes) (t .owners))
+  pub kept-define : Outside (row-size * (first-local + local)) (row-size * (first-local + local) + row-size) (t .kinds) kinds′
+      → Outside (row-size * (first-local + local)) (row-size * (first-local + local) + row-size) (t .widths) widths′ → Kept have local t (tables kinds′ widths′ (t .shapes) (t .owners))
   kept-define k w = kept-row (λ i h n e. omega arith) k w (outside-refl _ _ _) refl (λ i h. refl)
 
-  pub kept-shape : (shape : ℕ) → Outside (33 * (33 + local)) (33 * (33 + local) + 33) (t .kinds) kinds′
-      → Outside (33 * (33 + local)) (33 * (33 + local) + 33) (t .widths) widths′
-      → Kept have local t (tables kinds′ widths′ (set (t .shapes) (33 + local) shape) (t .owners))
+  pub kept-shape : (shape : ℕ) → Outside (row-size * (first-local + local)) (row-size * (first-local + local) + row-size) (t .kinds) kinds′
+      → Outside (row-size * (first-local + local)) (row-size * (first-local + local) + row-size) (t .widths) widths′
+      → Kept have local t (tables kinds′ widths′ (set (t .shapes) (first-local + local) shape) (t .owners))
   kept-shape shape k w = kept-row (λ i h n e. omega arith) k w (outside-set _ _ _ _ _ (omega arith) (omega arith)) refl (λ i h. refl)
 
 -- ---- rows that are kept are the same
 module _ {have local : ℕ} {t t′ : Tables} (k : Kept have local t t′) where
-  rows-from : (row n : ℕ) → 33 ≤ row → row + n ≤ 33 + local → rows t′ row n ≡ rows t row n
+  rows-from : (row n : ℕ) → first-local ≤ row → row + n ≤ first-local + local → rows t′ row n ≡ rows t row n
   unfolding rows
   rows-from row zero l h = refl
   rows-from row (suc n) l h =
       ap₂ (λ x xs. x ∷ xs) (k .row row (omega arith) (λ x y. omega arith)) (rows-from (row + 1) n (omega arith) (omega arith))
 
-  pub rows-kept : (base n : ℕ) → base + n ≤ local → rows t′ (33 + base) n ≡ rows t (33 + base) n
-  rows-kept base n h = rows-from (33 + base) n (omega arith) (omega arith)
+  pub rows-kept : (base n : ℕ) → base + n ≤ local → rows t′ (first-local + base) n ≡ rows t (first-local + base) n
+  rows-kept base n h = rows-from (first-local + base) n (omega arith) (omega arith)
 
-  shareds-from : (row n : ℕ) → row + n ≤ have → row + n ≤ 33 → shareds t′ row n ≡ shareds t row n
+  shareds-from : (row n : ℕ) → row + n ≤ have → row + n ≤ first-local → shareds t′ row n ≡ shareds t row n
   unfolding shareds
   shareds-from row zero l h = refl
   shareds-from row (suc n) l h =
       ap₂ (λ x xs. x ∷ xs) (ap₂ (λ o a. shared o a) (k .owner row (omega arith)) (k .row row (omega arith) (λ x y. omega arith)))
       (shareds-from (row + 1) n (omega arith) (omega arith))
 
-  pub shareds-kept : (n : ℕ) → n ≤ have → n ≤ 33 → shareds t′ 0 n ≡ shareds t 0 n
+  pub shareds-kept : (n : ℕ) → n ≤ have → n ≤ first-local → shareds t′ 0 n ≡ shareds t 0 n
   shareds-kept n l h = shareds-from 0 n (omega arith) (omega arith)
 
-  pub own-kept : (own : List ℕ) → Below have own → have ≤ 33 → map (row-of t′) own ≡ map (row-of t) own
+  pub own-kept : (own : List ℕ) → Below have own → have ≤ first-local → map (row-of t′) own ≡ map (row-of t) own
   own-kept [] b h = refl
   own-kept (x ∷ own) b h =
       let l : x < have = b 0 (omega arith) in
       ap₂ (λ a more. a ∷ more) (k .row x (omega arith) (λ y z. omega arith)) (own-kept own (λ i m. b (suc i) (omega arith)) h)
 
-  pub block-rows-kept : (own : List ℕ) (base : ℕ) → Below have own → have ≤ 33 → base ≤ local → block-rows t′ own base local ≡ block-rows t own base local
+  pub block-rows-kept : (own : List ℕ) (base : ℕ) → Below have own → have ≤ first-local → base ≤ local → block-rows t′ own base local ≡ block-rows t own base local
   unfolding block-rows
   block-rows-kept own base b h l = ap₂ (λ x y. x ++ y) (own-kept own b h) (rows-kept base (local - base) (omega arith))
 
@@ -143,26 +143,26 @@ shareds-more t n = shareds-on t 0 n ∙ ap (λ j. shareds t 0 n ++ shared (getD 
 
 -- a shape that is stored is its row's
 pub row-set : (kinds widths shapes owners : List ℕ) (row shape : ℕ) → row < length shapes
-    → row-of (tables kinds widths (set shapes row shape) owners) row ≡ abbrev-of kinds widths (33 * row) shape
+    → row-of (tables kinds widths (set shapes row shape) owners) row ≡ abbrev-of kinds widths (row-size * row) shape
 unfolding row-of
-row-set kinds widths shapes owners row shape h = ap (abbrev-of kinds widths (33 * row)) (getD-set-same shapes row shape 0 h)
+row-set kinds widths shapes owners row shape h = ap (abbrev-of kinds widths (row-size * row)) (getD-set-same shapes row shape 0 h)
 
 pub block-rows-more : {have : ℕ} (t : Tables) {kinds′ widths′ : List ℕ} (own : List ℕ) (base local shape : ℕ)
-    → Outside (33 * (33 + local)) (33 * (33 + local) + 33) (t .kinds) kinds′ → Outside (33 * (33 + local)) (33 * (33 + local) + 33) (t .widths) widths′
-    → Below have own → have ≤ 33 → base ≤ local → 33 + local < length (t .shapes)
-    → block-rows (tables kinds′ widths′ (set (t .shapes) (33 + local) shape) (t .owners)) own base (local + 1)
-    ≡ block-rows t own base local ++ abbrev-of kinds′ widths′ (33 * (33 + local)) shape ∷ []
+    → Outside (row-size * (first-local + local)) (row-size * (first-local + local) + row-size) (t .kinds) kinds′ → Outside (row-size * (first-local + local)) (row-size * (first-local + local) + row-size) (t .widths) widths′
+    → Below have own → have ≤ first-local → base ≤ local → first-local + local < length (t .shapes)
+    → block-rows (tables kinds′ widths′ (set (t .shapes) (first-local + local) shape) (t .owners)) own base (local + 1)
+    ≡ block-rows t own base local ++ abbrev-of kinds′ widths′ (row-size * (first-local + local)) shape ∷ []
 unfolding block-rows
 block-rows-more {have} t {kinds′} {widths′} own base local shape k w b h l m =
-    let t′ = tables kinds′ widths′ (set (t .shapes) (33 + local) shape) (t .owners) in
+    let t′ = tables kinds′ widths′ (set (t .shapes) (first-local + local) shape) (t .owners) in
     let a : Kept have local t t′ = kept-shape shape k w in
     let x : local + 1 - base ≡ local - base + 1 = omega arith in
-    let y : 33 + base + (local - base) ≡ 33 + local = omega arith in
+    let y : first-local + base + (local - base) ≡ first-local + local = omega arith in
     ap₂ (λ u v. u ++ v) (own-kept a own b h)
-    (ap (rows t′ (33 + base)) x ∙ rows-more t′ (33 + base) (local - base)
+    (ap (rows t′ (first-local + base)) x ∙ rows-more t′ (first-local + base) (local - base)
     ∙ ap₂ (λ u v. u ++ v ∷ []) (rows-kept a base (local - base) (omega arith))
-    (ap (row-of t′) y ∙ row-set kinds′ widths′ (t .shapes) (t .owners) (33 + local) shape m))
-    ∙ sym (append-assoc (map (row-of t) own) (rows t (33 + base) (local - base)) (abbrev-of kinds′ widths′ (33 * (33 + local)) shape ∷ []))
+    (ap (row-of t′) y ∙ row-set kinds′ widths′ (t .shapes) (t .owners) (first-local + local) shape m))
+    ∙ sym (append-assoc (map (row-of t) own) (rows t (first-local + base) (local - base)) (abbrev-of kinds′ widths′ (row-size * (first-local + local)) shape ∷ []))
 
 -- ---- lengths
 rows-length : (t : Tables) (row n : ℕ) → length (rows t row n) ≡ n
@@ -178,8 +178,8 @@ shareds-length t row (suc n) = ap suc (shareds-length t (row + 1) n)
 pub block-rows-length : (t : Tables) (own : List ℕ) (base local : ℕ) → length (block-rows t own base local) ≡ length own + (local - base)
 unfolding block-rows
 block-rows-length t own base local =
-    length-append (map (row-of t) own) (rows t (33 + base) (local - base))
-    ∙ ap₂ (λ (m n : ℕ). m + n) (length-map own (row-of t)) (rows-length t (33 + base) (local - base))
+    length-append (map (row-of t) own) (rows t (first-local + base) (local - base))
+    ∙ ap₂ (λ (m n : ℕ). m + n) (length-map own (row-of t)) (rows-length t (first-local + base) (local - base))
 
 -- ---- the shared rows for a block
 module _ (b : ℕ) where
@@ -342,7 +342,7 @@ module _ (r : No) (s : List ℕ) (e q : ℕ) where
 module _ (own : List ℕ) (base local n : ℕ) where
   row-cases : {X : Type 0} {row : ℕ} → row-at own base local n ≡ some row
       → (4 ≤ n → n - 4 < length own → row ≡ getD own (n - 4) 0 → X)
-      → (4 ≤ n → length own ≤ n - 4 → n - 4 - length own < local - base → row ≡ 33 + base + (n - 4 - length own) → X) → X
+      → (4 ≤ n → length own ≤ n - 4 → n - 4 - length own < local - base → row ≡ first-local + base + (n - 4 - length own) → X) → X
   unfolding row-at
   row-cases {X} {row} z f g =
       arms P (ltb n 4) _ _ z (λ i y. absurd (none y)) (λ i y.
@@ -375,7 +375,7 @@ module _ (own : List ℕ) (base local n : ℕ) where
       some-row : {x : ℕ} → some x ≡ nothing → ⊥
       some-row h = let w : _≡_ {A = ℕ} 0 1 = cc in omega arith
 
-  pub row-at-in : {have row : ℕ} → Below have own → have ≤ 32 → local ≤ 32 → base ≤ local → row-at own base local n ≡ some row → row < 66
+  pub row-at-in : {have row : ℕ} → Below have own → have ≤ 32 → local ≤ 32 → base ≤ local → row-at own base local n ≡ some row → row < row-count
   row-at-in {have} {row} b h l m z =
       row-cases z (λ i j k. let x : getD own (n - 4) 0 < have = b (n - 4) j in omega arith) (λ i j k y. omega arith)
 
@@ -386,9 +386,9 @@ module _ (own : List ℕ) (base local n : ℕ) where
     look-up-some {row} h l z =
         row-cases z (λ i j k. look-up-own r s e q (row-of t) own _ (n - 4) j ∙ ap (λ x. got (row-of t x) q) (sym k)) (λ i j m k.
         let u : n - 4 ≡ length (map (row-of t) own) + (n - 4 - length own) = omega (arith, length-map own (row-of t)) in
-        ap (λ x. look-up r x (map (row-of t) own ++ rows t (33 + base) (local - base)) s e q) u
-        ∙ look-up-behind r s e q (map (row-of t) own) (rows t (33 + base) (local - base)) (n - 4 - length own)
-        ∙ look-up-row r s e q t (33 + base) (local - base) (n - 4 - length own) m ∙ ap (λ x. got (row-of t x) q) (sym k))
+        ap (λ x. look-up r x (map (row-of t) own ++ rows t (first-local + base) (local - base)) s e q) u
+        ∙ look-up-behind r s e q (map (row-of t) own) (rows t (first-local + base) (local - base)) (n - 4 - length own)
+        ∙ look-up-row r s e q t (first-local + base) (local - base) (n - 4 - length own) m ∙ ap (λ x. got (row-of t x) q) (sym k))
 
     pub look-up-none : local ≤ 32 → base ≤ local → 4 ≤ n → row-at own base local n ≡ nothing
         → look-up r (n - 4) (block-rows t own base local) s e q ≡ refused r
@@ -405,7 +405,7 @@ module _ (own : List ℕ) (base local n : ℕ) where
   row-own h l = rw (le-ltb n 4 h, lt-ltb (n - 4) (length own) l)
 
   pub row-local : 4 ≤ n → length own ≤ n - 4 → local ≤ 32 → n - 4 - length own < local - base
-      → row-at own base local n ≡ some (33 + base + (n - 4 - length own))
+      → row-at own base local n ≡ some (first-local + base + (n - 4 - length own))
   unfolding row-at if_then_else_
   row-local h l m i = rw (le-ltb n 4 h, le-ltb (n - 4) (length own) l, le-leb local 32 m, lt-ltb (n - 4 - length own) (local - base) i)
 

@@ -21,7 +21,7 @@ use Rattle.bits.proofs.Vbr.{read-ahead}
 use Rattle.bits.proofs.Answers.{when-got, places}
 use Rattle.abbrev.specs.Abbrev.{Abbrev, define, number-of}
 use Rattle.abbrev.specs.BlockInfo.{Shared, shared, every, or-else, readable, chosen, info-definition, letters, InfoItem, info-end, info-adds, info-now, info-numbered, info-item, info-on, info}
-use Rattle.abbrev.specs.Tables.{Tables, tables, abbrev-of, shareds, Outside, Kept, Whole, define-row, InfoDoes, info-all, shared-fit, info-block, Adds, InfoIs}
+use Rattle.abbrev.specs.Tables.{row-size, local-rows, row-count, shared-slots, Tables, tables, abbrev-of, shareds, Outside, Kept, Whole, define-row, InfoDoes, info-all, shared-fit, info-block, Adds, InfoIs}
 use Rattle.abbrev.specs.declared.Info.{Info}
 use Rattle.abbrev.specs.declared.Info.the-variants as B
 use Rattle.abbrev.specs.declared.InfoStep.{InfoStep}
@@ -156,12 +156,12 @@ module _ (s : List ℕ) (e w : ℕ) where
 
 -- ---- a definition in BLOCKINFO
 -- a definition into tables that have its row
-pub define-in : (row kinds widths : ℕ) (s : List ℕ) (e p : ℕ) → row < 66 → 33 * row + 33 ≤ kinds → 33 * row + 33 ≤ widths
+pub define-in : (row kinds widths : ℕ) (s : List ℕ) (e p : ℕ) → row < row-count → row-size * row + row-size ≤ kinds → row-size * row + row-size ≤ widths
     → define-row row kinds widths s e p ≡ define s e p
 unfolding define-row
 define-in row kinds widths s e p i j k = pass-so no-abbreviation-room (λ u. define) s e p (row-fits row kinds widths i j k)
 
-module _ (row kinds widths : ℕ) (i : row < 66) (j : 33 * row + 33 ≤ kinds) (k : 33 * row + 33 ≤ widths) {s : List ℕ} {e p : ℕ} where
+module _ (row kinds widths : ℕ) (i : row < row-count) (j : row-size * row + row-size ≤ kinds) (k : row-size * row + row-size ≤ widths) {s : List ℕ} {e p : ℕ} where
   pub defined-in : {a : Abbrev} {d : Cursor} → At (define-row row kinds widths) s e p a d → At define s e p a d
   defined-in x = record { gives = sym (define-in row kinds widths s e p i j k) ∙ x .gives; ends = x .ends }
 
@@ -202,7 +202,7 @@ pub record Going (s : List ℕ) (w have₀ : ℕ) (t₀ : Tables) (c₀ c : Curs
   pub so-far : List Shared
   pub rest : info-all w have₀ s (c₀ .end) (c₀ .at) ≡ mapped (λ xs. so-far ++ xs) (turns (λ k. info k w now have) s (c .end) (c .at))
   pub holds : shareds t 0 have ≡ shareds t₀ 0 have₀ ++ so-far
-  pub kept : Kept have₀ 33 t₀ t
+  pub kept : Kept have₀ local-rows t₀ t
   pub same-end : c .end ≡ c₀ .end
   pub more : have₀ ≤ have
   pub most : have ≤ 32
@@ -214,7 +214,7 @@ going-start s w have t c h =
       so-far = [];
       rest = sym (mapped-same (λ xs. [] ++ xs) (λ xs. refl) (turns (λ k. info k w nothing have) s (c .end) (c .at)));
       holds = sym (append-nil (shareds t 0 have));
-      kept = kept-refl have 33 t;
+      kept = kept-refl have local-rows t;
       same-end = refl;
       more = omega arith;
       most = h;
@@ -254,11 +254,11 @@ module _ {s : List ℕ} {w have₀ : ℕ} {t₀ : Tables} {c₀ c : Cursor} {t :
         ∙ so (placed (c .at) (info-item every w now have)) _ s (c .end) (c .at) (placed-got (c .at) _ s (c .end) (c .at) (o .gives)))
 
   -- the tables behind an item: the row behind those in use may have been written
-  module _ {kinds′ widths′ : List ℕ} (k : Outside (33 * have) (33 * have + 33) (t .kinds) kinds′) (l : Outside (33 * have) (33 * have + 33) (t .widths) widths′) where
-    kept-here : (have′ : ℕ) → have′ ≤ have → Kept have′ 33 t (tables kinds′ widths′ (t .shapes) (t .owners))
+  module _ {kinds′ widths′ : List ℕ} (k : Outside (row-size * have) (row-size * have + row-size) (t .kinds) kinds′) (l : Outside (row-size * have) (row-size * have + row-size) (t .widths) widths′) where
+    kept-here : (have′ : ℕ) → have′ ≤ have → Kept have′ local-rows t (tables kinds′ widths′ (t .shapes) (t .owners))
     kept-here have′ h = kept-row (λ i u v e. v (omega arith) (omega (arith, g .most))) k l (outside-refl _ _ _) refl (λ i u. refl)
 
-    pub going-kept : Kept have₀ 33 t₀ (tables kinds′ widths′ (t .shapes) (t .owners))
+    pub going-kept : Kept have₀ local-rows t₀ (tables kinds′ widths′ (t .shapes) (t .owners))
     going-kept = kept-then (g .kept) (kept-here have₀ (g .more))
 
     same-held : shareds (tables kinds′ widths′ (t .shapes) (t .owners)) 0 have ≡ shareds t₀ 0 have₀ ++ g .so-far
@@ -295,7 +295,7 @@ module _ {s : List ℕ} {w have₀ : ℕ} {t₀ : Tables} {c₀ c : Cursor} {t :
 
     -- a definition
     pub going-adds : (shape : ℕ) {b : ℕ} {d : Cursor} → have < length (t .shapes) → have < length (t .owners) → have < 32
-        → At (info-item every w now have) s (c .end) (c .at) (info-adds (shared b (abbrev-of kinds′ widths′ (33 * have) shape))) d
+        → At (info-item every w now have) s (c .end) (c .at) (info-adds (shared b (abbrev-of kinds′ widths′ (row-size * have) shape))) d
         → Going s w have₀ t₀ c₀ d (tables kinds′ widths′ (set (t .shapes) have shape) (set (t .owners) have b)) now (have + 1)
     unfolding info-on
     going-adds shape {b} {d} hs ho h o =
@@ -318,24 +318,24 @@ module _ {s : List ℕ} {w have₀ : ℕ} {t₀ : Tables} {c₀ c : Cursor} {t :
         }
       where
         x : Shared
-        x = shared b (abbrev-of kinds′ widths′ (33 * have) shape)
+        x = shared b (abbrev-of kinds′ widths′ (row-size * have) shape)
 
         t′ : Tables
         t′ = tables kinds′ widths′ (set (t .shapes) have shape) (set (t .owners) have b)
 
-        kept-to : (have′ : ℕ) → have′ ≤ have → Kept have′ 33 t t′
+        kept-to : (have′ : ℕ) → have′ ≤ have → Kept have′ local-rows t t′
         kept-to have′ m =
             kept-row (λ i u v e. v (omega arith) (omega arith)) k l (outside-set _ _ _ _ _ (omega arith) (omega arith)) (length-set (t .owners) have b)
             (λ i u. getD-set-other (t .owners) have i b 0 (λ e. omega arith))
 
 -- ---- a BLOCKINFO's body: the items, where the tables have all shared rows
 module _ (have : ℕ) (t : Tables) where
-  fits : have ≤ 32 → 1089 ≤ length (t .kinds) → 1089 ≤ length (t .widths) → 32 ≤ length (t .shapes) → 32 ≤ length (t .owners) → shared-fit have t ≡ true
+  fits : have ≤ 32 → shared-slots ≤ length (t .kinds) → shared-slots ≤ length (t .widths) → 32 ≤ length (t .shapes) → 32 ≤ length (t .owners) → shared-fit have t ≡ true
   unfolding shared-fit
   fits a b c d e =
-      rw (le-leb have 32 a, le-leb 1089 (length (t .kinds)) b, le-leb 1089 (length (t .widths)) c, le-leb 32 (length (t .shapes)) d, le-leb 32 (length (t .owners)) e)
+      rw (le-leb have 32 a, le-leb shared-slots (length (t .kinds)) b, le-leb shared-slots (length (t .widths)) c, le-leb 32 (length (t .shapes)) d, le-leb 32 (length (t .owners)) e)
 
-  unfit : (have ≤ 32 → 1089 ≤ length (t .kinds) → 1089 ≤ length (t .widths) → 32 ≤ length (t .shapes) → 32 ≤ length (t .owners) → ⊥) → shared-fit have t ≡ false
+  unfit : (have ≤ 32 → shared-slots ≤ length (t .kinds) → shared-slots ≤ length (t .widths) → 32 ≤ length (t .shapes) → 32 ≤ length (t .owners) → ⊥) → shared-fit have t ≡ false
   unfolding shared-fit
   unfit h = go (shared-fit have t) refl
     where
@@ -344,13 +344,13 @@ module _ (have : ℕ) (t : Tables) where
       go true i =
           let a = and-true _ (leb 32 (length (t .owners))) i in
           let b = and-true _ (leb 32 (length (t .shapes))) (a .0) in
-          let c = and-true _ (leb 1089 (length (t .widths))) (b .0) in
-          let d = and-true (leb have 32) (leb 1089 (length (t .kinds))) (c .0) in
+          let c = and-true _ (leb shared-slots (length (t .widths))) (b .0) in
+          let d = and-true (leb have 32) (leb shared-slots (length (t .kinds))) (c .0) in
           absurd (h (leb-true _ _ (d .0)) (leb-true _ _ (d .1)) (leb-true _ _ (c .1)) (leb-true _ _ (b .1)) (leb-true _ _ (a .1)))
 
   module _ (w : ℕ) where
     pub info-unfit : (s : List ℕ) (e p : ℕ)
-        → (have ≤ 32 → 1089 ≤ length (t .kinds) → 1089 ≤ length (t .widths) → 32 ≤ length (t .shapes) → 32 ≤ length (t .owners) → ⊥)
+        → (have ≤ 32 → shared-slots ≤ length (t .kinds) → shared-slots ≤ length (t .widths) → 32 ≤ length (t .shapes) → 32 ≤ length (t .owners) → ⊥)
         → info-block w have t s e p ≡ refused (refusal 17 p 0 0)
     unfolding info-block here _>>=_ onward require
     info-unfit s e p h = rw (unfit h)
@@ -364,7 +364,7 @@ module _ (have : ℕ) (t : Tables) where
     info-whole s e p h z =
         info-fit s e p (fits h (omega (arith, z .kinds)) (omega (arith, z .widths)) (omega (arith, z .shapes)) (omega (arith, z .owners)))
 
-    pub info-is : (c : Cursor) (s : List ℕ) (t′ : Tables) (r : Info) → have ≤ 32 → 1089 ≤ length (t .kinds) → 1089 ≤ length (t .widths)
+    pub info-is : (c : Cursor) (s : List ℕ) (t′ : Tables) (r : Info) → have ≤ 32 → shared-slots ≤ length (t .kinds) → shared-slots ≤ length (t .widths)
         → 32 ≤ length (t .shapes) → 32 ≤ length (t .owners) → InfoIs c s (info-all w have) have t t′ r → InfoIs c s (info-block w have t) have t t′ r
     info-is c s t′ (B.Shared have′) i j k l m x =
         record {

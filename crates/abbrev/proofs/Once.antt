@@ -15,7 +15,7 @@ use Rattle.bits.proofs.Steps.{never, got-value}
 use Rattle.bitcode.specs.declared.ScalarOperand.{ScalarOperand}
 use Rattle.abbrev.specs.Abbrev.{Abbrev, number-of}
 use Rattle.abbrev.specs.BlockInfo.{Shared}
-use Rattle.abbrev.specs.Tables.{Tables, scalar-of, abbrev-of, shareds, nothing-held, Defines, define-row, InfoIs, info-block, picked, row-at, ofRow}
+use Rattle.abbrev.specs.Tables.{row-size, Tables, scalar-of, abbrev-of, shareds, nothing-held, Defines, define-row, InfoIs, info-block, picked, row-at, ofRow}
 use Rattle.abbrev.specs.declared.Abbreviations.{Abbreviations}
 use Rattle.abbrev.specs.declared.Defined.{Defined}
 use Rattle.abbrev.specs.declared.Defined.the-variants as F
@@ -69,10 +69,10 @@ defines-gives c s m kinds widths base (F.Shape shape d) x = x
 defines-gives c s m kinds widths base (F.Refused n u v) x = x
 
 pub define-abbrev-once : (c : Cursor) (s : List ℕ) (row n m : ℕ) (kinds kinds′ widths widths′ : List ℕ) (r r′ : Defined)
-    → Defines c s (define-row row n m) kinds widths (33 * row) r → Defines c s (define-row row n m) kinds′ widths′ (33 * row) r′
-    → defined-as kinds widths (33 * row) r ≡ defined-as kinds′ widths′ (33 * row) r′
+    → Defines c s (define-row row n m) kinds widths (row-size * row) r → Defines c s (define-row row n m) kinds′ widths′ (row-size * row) r′
+    → defined-as kinds widths (row-size * row) r ≡ defined-as kinds′ widths′ (row-size * row) r′
 define-abbrev-once c s row n m kinds kinds′ widths widths′ r r′ x y =
-    gives-once c s (define-row row n m) _ _ (defines-gives c s (define-row row n m) kinds widths (33 * row) r x) (defines-gives c s (define-row row n m) kinds′ widths′ (33 * row) r′ y)
+    gives-once c s (define-row row n m) _ _ (defines-gives c s (define-row row n m) kinds widths (row-size * row) r x) (defines-gives c s (define-row row n m) kinds′ widths′ (row-size * row) r′ y)
 
 -- the shared abbreviations that the tables hold behind a BLOCKINFO; where it is refused they don't matter
 abbrev pub held-by : Tables → Info → List Shared

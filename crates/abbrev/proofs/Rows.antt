@@ -19,7 +19,7 @@ use Rattle.bitcode.specs.declared.ScalarOperand.{ScalarOperand}
 use Rattle.abbrev.specs.declared.Defined.{Defined}
 use Rattle.abbrev.specs.declared.Defined.the-variants as F
 use Rattle.abbrev.specs.Abbrev.{Abbrev, abbreviation, Payload, none, blob, array, Operand, scalar, is-array, is-blob, operand, element, also, rest-of, operands, define}
-use Rattle.abbrev.specs.Tables.{scalar-of, slot, slots, load-of, abbrev-of, Outside, Elements, Defines, define-row}
+use Rattle.abbrev.specs.Tables.{row-size, first-local, row-count, blob-shape, scalar-of, slot, slots, load-of, abbrev-of, Outside, Elements, Defines, define-row}
 
 -- ---- what a table keeps
 pub outside-refl : (from to : ℕ) (xs : List ℕ) → Outside from to xs xs
@@ -52,11 +52,11 @@ module _ {kinds kinds′ widths widths′ : List ℕ} {from to : ℕ} (k : Outsi
       ap₂ (λ x xs. x ∷ xs) (slot-same i (h i (omega arith) (omega arith))) (slots-same (i + 1) n (λ j l m. h j (omega arith) (omega arith)))
 
   -- a row that lies outside of what changed holds the abbreviation that it held
-  pub abbrev-same : (base shape : ℕ) → Apart base 33 from to → abbrev-of kinds′ widths′ base shape ≡ abbrev-of kinds widths base shape
+  pub abbrev-same : (base shape : ℕ) → Apart base row-size from to → abbrev-of kinds′ widths′ base shape ≡ abbrev-of kinds widths base shape
   unfolding abbrev-of
   abbrev-same base shape h =
-      let l : shape % 33 < 33 = omega arith in
-      ap₂ (λ xs x. abbreviation xs (load-of (shape / 33) x)) (slots-same base (shape % 33) (λ j a b. h j a (omega arith))) (slot-same (base + shape % 33) (h (base + shape % 33) (omega arith) (omega arith)))
+      let l : shape % row-size < first-local = omega arith in
+      ap₂ (λ xs x. abbreviation xs (load-of (shape / row-size) x)) (slots-same base (shape % row-size) (λ j a b. h j a (omega arith))) (slot-same (base + shape % row-size) (h (base + shape % row-size) (omega arith) (omega arith)))
 
 module _ (kinds widths : List ℕ) where
   pub slots-more : (i n : ℕ) → slots kinds widths i (n + 1) ≡ slots kinds widths i n ++ slot kinds widths (i + n) ∷ []
@@ -85,12 +85,12 @@ slots-set kinds widths base i k v h l =
     ∙ ap₂ (λ xs x. xs ++ x ∷ []) (slots-same a b base i (λ j x y u w. omega arith)) (slot-set kinds widths (base + i) k v h l)
 
 -- ---- a row: n scalars, and the payload l
-pub abbrev-is : (kinds widths : List ℕ) (base n l : ℕ) {shape : ℕ} → n < 33 → shape ≡ n + 33 * l
+pub abbrev-is : (kinds widths : List ℕ) (base n l : ℕ) {shape : ℕ} → n < first-local → shape ≡ n + row-size * l
     → abbrev-of kinds widths base shape ≡ abbreviation (slots kinds widths base n) (load-of l (slot kinds widths (base + n)))
 unfolding abbrev-of
 abbrev-is kinds widths base n l {shape} h i =
-    let e : shape % 33 ≡ n = omega arith in
-    let f : shape / 33 ≡ l = omega arith in
+    let e : shape % row-size ≡ n = omega arith in
+    let f : shape / row-size ≡ l = omega arith in
     rw (e, f)
 
 -- ---- the loop that reads operands: the answer from the start is what is stored, in front of the answer from here
@@ -169,20 +169,20 @@ pub record Turn (s : List ℕ) (c₀ : Cursor) (total base : ℕ) (kinds₀ widt
   pub same-end : c .end ≡ c₀ .end
   pub sum : i + left ≡ total
   pub few : total ≤ 32
-  pub kept-kinds : Outside base (base + 33) kinds₀ kinds
-  pub kept-widths : Outside base (base + 33) widths₀ widths
-  pub long-kinds : base + 33 ≤ length kinds
-  pub long-widths : base + 33 ≤ length widths
+  pub kept-kinds : Outside base (base + row-size) kinds₀ kinds
+  pub kept-widths : Outside base (base + row-size) widths₀ widths
+  pub long-kinds : base + row-size ≤ length kinds
+  pub long-widths : base + row-size ≤ length widths
 
-pub turn-start : (s : List ℕ) (c : Cursor) (total base : ℕ) (kinds widths : List ℕ) → base + 33 ≤ length kinds → base + 33 ≤ length widths → total ≤ 32
+pub turn-start : (s : List ℕ) (c : Cursor) (total base : ℕ) (kinds widths : List ℕ) → base + row-size ≤ length kinds → base + row-size ≤ length widths → total ≤ 32
     → Turn s c total base kinds widths kinds widths c 0 total
 turn-start s c total base kinds widths h l m = record {
   going = going-start s (c .end) kinds widths base total (c .at);
   same-end = refl;
   sum = omega arith;
   few = m;
-  kept-kinds = outside-refl base (base + 33) kinds;
-  kept-widths = outside-refl base (base + 33) widths;
+  kept-kinds = outside-refl base (base + row-size) kinds;
+  kept-widths = outside-refl base (base + row-size) widths;
   long-kinds = h;
   long-widths = l;
 }
@@ -200,7 +200,7 @@ module _ {s : List ℕ} {c₀ : Cursor} {total base : ℕ} {kinds₀ widths₀ k
   turn-off h o = let o₂ = rw (t .same-end) at o in record { why = going-off (t .going) h (o₂ .why) }
 
   pub turn-blob : {d : Cursor} → 0 < left → At (operand (left - 1)) s (c .end) (c .at) is-blob d
-      → At (operands total) s (c₀ .end) (c₀ .at) (abbrev-of kinds widths base (i + 66)) d
+      → At (operands total) s (c₀ .end) (c₀ .at) (abbrev-of kinds widths base (i + blob-shape)) d
   unfolding load-of if_then_else_
   turn-blob {d} h o =
       let o₂ = rw (t .same-end) at o in
@@ -244,19 +244,19 @@ module _ {s : List ℕ} {c₀ : Cursor} {total base : ℕ} {kinds₀ widths₀ k
         same-end = o₂ .ends;
         sum = omega (arith, t .sum);
         few = t .few;
-        kept-kinds = outside-then (t .kept-kinds) (outside-set base (base + 33) kinds (base + i) k (omega arith) (omega (arith, n .2)));
-        kept-widths = outside-then (t .kept-widths) (outside-set base (base + 33) widths (base + i) v (omega arith) (omega (arith, n .2)));
+        kept-kinds = outside-then (t .kept-kinds) (outside-set base (base + row-size) kinds (base + i) k (omega arith) (omega (arith, n .2)));
+        kept-widths = outside-then (t .kept-widths) (outside-set base (base + row-size) widths (base + i) v (omega arith) (omega (arith, n .2)));
         long-kinds = omega (arith, l, t .long-kinds);
         long-widths = omega (arith, m, t .long-widths);
       }
 
 -- ---- a definition, behind the tests of its row and its count
-pub row-fits : (row kinds widths : ℕ) → row < 66 → 33 * row + 33 ≤ kinds → 33 * row + 33 ≤ widths
-    → (ltb row 66 && leb (33 * row + 33) kinds && leb (33 * row + 33) widths) ≡ true
-row-fits row kinds widths h l m = rw (lt-ltb row 66 h, le-leb (33 * row + 33) kinds l, le-leb (33 * row + 33) widths m)
+pub row-fits : (row kinds widths : ℕ) → row < row-count → row-size * row + row-size ≤ kinds → row-size * row + row-size ≤ widths
+    → (ltb row row-count && leb (row-size * row + row-size) kinds && leb (row-size * row + row-size) widths) ≡ true
+row-fits row kinds widths h l m = rw (lt-ltb row row-count h, le-leb (row-size * row + row-size) kinds l, le-leb (row-size * row + row-size) widths m)
 
 pub define-more : {s : List ℕ} {c d : Cursor} {n : ℕ} (row many-kinds many-widths : ℕ) (kinds widths : List ℕ) (base : ℕ) (r : Defined)
-    → (ltb row 66 && leb (33 * row + 33) many-kinds && leb (33 * row + 33) many-widths) ≡ true → At (vbr 5) s (c .end) (c .at) n d → n ≤ 32
+    → (ltb row row-count && leb (row-size * row + row-size) many-kinds && leb (row-size * row + row-size) many-widths) ≡ true → At (vbr 5) s (c .end) (c .at) n d → n ≤ 32
     → Defines d s (operands n) kinds widths base r → Defines c s (define-row row many-kinds many-widths) kinds widths base r
 unfolding define-row define
 define-more {n = n} row many-kinds many-widths kinds widths base (F.Shape shape g) i x h y = pass _ _ i (on _ x (pass _ _ (le-leb n 32 h) y))

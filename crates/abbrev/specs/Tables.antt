@@ -38,6 +38,31 @@ use Rattle.abbrev.specs.declared.Info.the-variants as B
 use Rattle.abbrev.specs.declared.Row.{Row}
 use Rattle.abbrev.specs.declared.Row.the-variants as R
 
+-- ---- sizes
+-- the slots of a row: one more than an abbreviation has operands
+abbrev pub row-size : ℕ
+row-size = 33
+
+-- the shared rows: 32, and the one that is being read. The local rows are behind them, again 32 and one
+abbrev pub first-local : ℕ
+first-local = 33
+
+abbrev pub local-rows : ℕ
+local-rows = 33
+
+abbrev pub row-count : ℕ
+row-count = 66
+
+abbrev pub shared-slots : ℕ
+shared-slots = 1089
+
+abbrev pub slot-count : ℕ
+slot-count = 2178
+
+-- what a blob adds to a shape: twice an array
+abbrev pub blob-shape : ℕ
+blob-shape = 66
+
 -- ---- a slot holds a scalar operand: a kind, and a width or a value
 unfoldable pub scalar-of : ℕ → ℕ → ScalarOperand
 scalar-of k v =
@@ -53,13 +78,13 @@ unfoldable pub slots : List ℕ → List ℕ → ℕ → ℕ → List ScalarOper
 slots kinds widths i zero = []
 slots kinds widths i (suc n) = slot kinds widths i ∷ slots kinds widths (i + 1) n
 
--- ---- a row of 33 slots holds an abbreviation: its shape is the count of its scalars, and 33 times its payload
+-- ---- a row holds an abbreviation: its shape is the count of its scalars, and so many times its payload as a row has slots
 unfoldable pub load-of : ℕ → ScalarOperand → Payload
 load-of l element = if eqb l 0 then none else if eqb l 1 then array element else blob
 
 unfoldable pub abbrev-of : List ℕ → List ℕ → ℕ → ℕ → Abbrev
 abbrev-of kinds widths base shape =
-    abbreviation (slots kinds widths base (shape % 33)) (load-of (shape / 33) (slot kinds widths (base + shape % 33)))
+    abbreviation (slots kinds widths base (shape % row-size)) (load-of (shape / row-size) (slot kinds widths (base + shape % row-size)))
 
 -- the lent tables: kinds and widths of the slots, shapes of the rows, and the block numbers that the shared rows are for
 pub record Tables : Type 0 where
@@ -72,7 +97,7 @@ abbrev pub tables : List ℕ → List ℕ → List ℕ → List ℕ → Tables
 tables kinds widths shapes owners = record { kinds = kinds; widths = widths; shapes = shapes; owners = owners }
 
 unfoldable pub row-of : Tables → ℕ → Abbrev
-row-of t row = abbrev-of (t .kinds) (t .widths) (33 * row) (getD (t .shapes) row 0)
+row-of t row = abbrev-of (t .kinds) (t .widths) (row-size * row) (getD (t .shapes) row 0)
 
 -- n rows from `row` on
 unfoldable pub rows : Tables → ℕ → ℕ → List Abbrev
@@ -86,7 +111,7 @@ shareds t row (suc n) = shared (getD (t .owners) row 0) (row-of t row) ∷ share
 
 -- a block's abbreviations, by the numbers of its shared rows, and its local rows, which begin behind the 32 shared ones and one
 unfoldable pub block-rows : Tables → List ℕ → ℕ → ℕ → List Abbrev
-block-rows t own base local = map (row-of t) own ++ rows t (33 + base) (local - base)
+block-rows t own base local = map (row-of t) own ++ rows t (first-local + base) (local - base)
 
 -- ---- what a call keeps of a table: all but the places from `from` up to `to`
 pub record Outside (from to : ℕ) (xs ys : List ℕ) : Type 0 where
@@ -99,15 +124,15 @@ pub record Kept (have local : ℕ) (t t′ : Tables) : Type 0 where
   pub many-widths : length (t′ .widths) ≡ length (t .widths)
   pub many-shapes : length (t′ .shapes) ≡ length (t .shapes)
   pub many-owners : length (t′ .owners) ≡ length (t .owners)
-  pub row : (i : ℕ) → i < 33 + local → (have ≤ i → i < 33 → ⊥) → row-of t′ i ≡ row-of t i
+  pub row : (i : ℕ) → i < first-local + local → (have ≤ i → i < first-local → ⊥) → row-of t′ i ≡ row-of t i
   pub owner : (i : ℕ) → i < have → getD (t′ .owners) i 0 ≡ getD (t .owners) i 0
 
 -- tables of the state's sizes
 pub record Whole (t : Tables) : Type 0 where
-  pub kinds : length (t .kinds) ≡ 2178
-  pub widths : length (t .widths) ≡ 2178
-  pub shapes : length (t .shapes) ≡ 66
-  pub owners : length (t .owners) ≡ 32
+  pub kinds : length (t .kinds) ≡ slot-count
+  pub widths : length (t .widths) ≡ slot-count
+  pub shapes : length (t .shapes) ≡ row-count
+  pub owners : length (t .owners) ≡ max-shared
 
 -- numbers of shared rows that are in use
 abbrev pub Below : ℕ → List ℕ → Type 0
@@ -116,7 +141,7 @@ Below have own = (i : ℕ) → i < length own → getD own i 0 < have
 -- ---- the state that the walk begins with
 abbrev pub nothing-held : Abbreviations → Type 0
 nothing-held a =
-    (a .kinds ≡ replicate 2178 0) × (a .widths ≡ replicate 2178 0) × (a .shapes ≡ replicate 66 0) × (a .owners ≡ replicate 32 0)
+    (a .kinds ≡ replicate slot-count 0) × (a .widths ≡ replicate slot-count 0) × (a .shapes ≡ replicate row-count 0) × (a .owners ≡ replicate max-shared 0)
     × (a .shared ≡ 0) × (a .local ≡ 0)
 
 -- ---- the answers of the small readers
@@ -150,20 +175,20 @@ Defines c s m kinds widths base (F.Refused n x y) = Off m s (c .end) (c .at) (no
 -- an array's element, behind i scalars
 abbrev pub Elements : Cursor → List ℕ → List ℕ → List ℕ → ℕ → ℕ → Defined → Type 0
 Elements c s kinds widths base i (F.Shape shape d) =
-    At (D.operand 0 >>= D.element) s (c .end) (c .at) (abbreviation [] (array (slot kinds widths (base + i)))) d × (shape ≡ i + 33)
+    At (D.operand 0 >>= D.element) s (c .end) (c .at) (abbreviation [] (array (slot kinds widths (base + i)))) d × (shape ≡ i + row-size)
 Elements c s kinds widths base i (F.Refused n x y) = Off (D.operand 0 >>= D.element) s (c .end) (c .at) (no n x y)
 
 -- tables of so many kinds and widths hold the row; else there is no room
 unfoldable pub define-row : ℕ → ℕ → ℕ → Reader No Abbrev
 define-row row kinds widths = do
-  require (ltb row 66 && leb (33 * row + 33) kinds && leb (33 * row + 33) widths) no-abbreviation-room
+  require (ltb row row-count && leb (row-size * row + row-size) kinds && leb (row-size * row + row-size) widths) no-abbreviation-room
   D.define
 
 -- ---- BLOCKINFO
 abbrev pub InfoDoes : Cursor → List ℕ → Reader No InfoItem → List ℕ → List ℕ → ℕ → InfoStep → Type 0
 InfoDoes c s m kinds widths have (S.End d) = At m s (c .end) (c .at) info-end d
 InfoDoes c s m kinds widths have (S.Adds b shape d) =
-    At m s (c .end) (c .at) (info-adds (shared (b .0) (abbrev-of kinds widths (33 * have) shape))) d × (have < max-shared)
+    At m s (c .end) (c .at) (info-adds (shared (b .0) (abbrev-of kinds widths (row-size * have) shape))) d × (have < max-shared)
 InfoDoes c s m kinds widths have (S.Now b d) = At m s (c .end) (c .at) (info-now (ofChosen b)) d
 InfoDoes c s m kinds widths have (S.Refused n x y) = Off m s (c .end) (c .at) (no n x y)
 
@@ -173,7 +198,7 @@ info-all w have = turns (λ k. I.info k w nothing have)
 -- tables that have all shared rows, and no more of them in use; else there is no room
 unfoldable pub shared-fit : ℕ → Tables → Bool
 shared-fit have t =
-    leb have max-shared && leb 1089 (length (t .kinds)) && leb 1089 (length (t .widths)) && leb max-shared (length (t .shapes)) && leb max-shared (length (t .owners))
+    leb have max-shared && leb shared-slots (length (t .kinds)) && leb shared-slots (length (t .widths)) && leb max-shared (length (t .shapes)) && leb max-shared (length (t .owners))
 
 unfoldable pub info-block : ℕ → ℕ → Tables → Reader Refusal (List Shared)
 info-block w have t = do
@@ -209,7 +234,7 @@ unfoldable pub row-at : List ℕ → ℕ → ℕ → ℕ → Option ℕ
 row-at own base local n =
     if ltb n 4 then nothing else
     if ltb (n - 4) (length own) then some (getD own (n - 4) 0) else
-    if leb local max-local && ltb (n - 4 - length own) (local - base) then some (33 + base + (n - 4 - length own)) else nothing
+    if leb local max-local && ltb (n - 4 - length own) (local - base) then some (first-local + base + (n - 4 - length own)) else nothing
 
 abbrev pub ofRow : ℕ → ℕ → Option ℕ → Row
 ofRow block number (some row) = R.At row

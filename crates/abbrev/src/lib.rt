@@ -22,10 +22,11 @@ ghost use mathlib.Core.Path.{_≡_};
 ghost use mathlib.Core.List.{_++_};
 ghost use Prim.Native.Nat.{ℕ, _+_, _*_, _<_, _≤_, min};
 ghost use lib.ListN.{length, drop};
+ghost use Rattle.terms.specs.Limits.{max-operands, max-shared};
 ghost use Rattle.bits.specs.Told.{Gives, ofRead};
 ghost use Rattle.abbrev.specs.Abbrev.{width, kind, operand, operands as operandsOf, number-of};
 ghost use Rattle.abbrev.specs.BlockInfo.{every, letters as lettersOf, set-bid, block-name, record-name, info-record, info-numbered, info-item};
-ghost use Rattle.abbrev.specs.Tables.{Outside, Tables, tables, scalar-of, define-row, nothing-held, ofWidth, ofOperand, Elements, Defines, ofChosen, ofNamed, ofLetters, InfoDoes, Kept, InfoIs, info-all, info-block, picked, row-at, ofRow};
+ghost use Rattle.abbrev.specs.Tables.{row-size, local-rows, shared-slots, Outside, Tables, tables, scalar-of, define-row, nothing-held, ofWidth, ofOperand, Elements, Defines, ofChosen, ofNamed, ofLetters, InfoDoes, Kept, InfoIs, info-all, info-block, picked, row-at, ofRow};
 
 // The slots of a row: as many as an abbreviation has operands, and one.
 pub const ROW: usize = 33;
@@ -41,15 +42,19 @@ const SHARED_SLOTS: usize = 1089;
 
 pub const SLOTS: usize = 2178;
 
+// What an array and a blob add to a row's shape, which is else the count of its scalars.
+pub const ARRAY_SHAPE: u64 = 33;
+
+pub const BLOB_SHAPE: u64 = 66;
+
 // A block's number.
 pub struct BlockNumber(pub u64);
 
 // The number of an abbreviation in a block, which counts from 4.
 pub struct AbbrevNumber(pub u64);
 
-// The abbreviation state: for each slot the operand's kind (0 literal, 1 fixed, 2 VBR, 3 char6) and its width or value; for each row its shape, which
-// is the count of its scalars and 33 times its payload (0 none, 1 an array, 2 a blob); for each shared row the number of the block that it is for;
-// and how many rows are in use.
+// The abbreviation state: for each slot the operand's kind (0 literal, 1 fixed, 2 VBR, 3 char6) and its width or value; for each row its shape; for
+// each shared row the number of the block that it is for; and how many rows are in use.
 pub struct Abbreviations {
     pub kinds: [u8; SLOTS],
     pub widths: [u64; SLOTS],
@@ -239,7 +244,7 @@ fn read_element(
     base: usize,
     i: usize,
 ) -> Defined
-    requires { ⌜ (base + i < length (now kinds)) × (base + i < length (now widths)) × (i ≤ 32) ⌝ }
+    requires { ⌜ (base + i < length (now kinds)) × (base + i < length (now widths)) × (i ≤ max-operands) ⌝ }
     ensures kept { λ r. ⌜ Outside (base + i) (base + i + 1) (now (kinds .entry)) (now (kinds .exit)) × Outside (base + i) (base + i + 1) (now (widths .entry)) (now (widths .exit)) ⌝ }
     ensures gives { λ r. ⌜ Elements c (now (s .entry)) (now (kinds .exit)) (now (widths .exit)) base i r ⌝ }
 {
@@ -251,7 +256,7 @@ fn read_element(
             let j = base + i;
             kinds[j] = k;
             widths[j] = v;
-            Defined::Shape(i as u64 + 33, d)
+            Defined::Shape(i as u64 + ARRAY_SHAPE, d)
         }
     }
 }
@@ -265,8 +270,8 @@ fn read_operands(
     widths: &mut [u64],
     base: usize,
 ) -> Defined
-    requires { ⌜ (base + 33 ≤ length (now kinds)) × (base + 33 ≤ length (now widths)) × (total ≤ 32) ⌝ }
-    ensures kept { λ r. ⌜ Outside base (base + 33) (now (kinds .entry)) (now (kinds .exit)) × Outside base (base + 33) (now (widths .entry)) (now (widths .exit)) ⌝ }
+    requires { ⌜ (base + row-size ≤ length (now kinds)) × (base + row-size ≤ length (now widths)) × (total ≤ max-operands) ⌝ }
+    ensures kept { λ r. ⌜ Outside base (base + row-size) (now (kinds .entry)) (now (kinds .exit)) × Outside base (base + row-size) (now (widths .entry)) (now (widths .exit)) ⌝ }
     ensures gives { λ r. ⌜ Defines c0 (now (s .entry)) (operandsOf total) (now (kinds .exit)) (now (widths .exit)) base r ⌝ }
 {
     let mut c = c0;
@@ -282,7 +287,7 @@ fn read_operands(
                 return Defined::Refused(n, x, y);
             }
             Operand::Blob(d) => {
-                return Defined::Shape(i as u64 + 66, d);
+                return Defined::Shape(i as u64 + BLOB_SHAPE, d);
             }
             Operand::Array(d) => {
                 return read_element(d, s, kinds, widths, base, i);
@@ -306,8 +311,8 @@ pub fn define_abbrev(
     widths: &mut [u64],
     row: usize,
 ) -> Defined
-    ensures kept { λ r. ⌜ Outside (33 * row) (33 * row + 33) (now (kinds .entry)) (now (kinds .exit)) × Outside (33 * row) (33 * row + 33) (now (widths .entry)) (now (widths .exit)) ⌝ }
-    ensures gives { λ r. ⌜ Defines c (now (s .entry)) (define-row row (length (now (kinds .entry))) (length (now (widths .entry)))) (now (kinds .exit)) (now (widths .exit)) (33 * row) r ⌝ }
+    ensures kept { λ r. ⌜ Outside (row-size * row) (row-size * row + row-size) (now (kinds .entry)) (now (kinds .exit)) × Outside (row-size * row) (row-size * row + row-size) (now (widths .entry)) (now (widths .exit)) ⌝ }
+    ensures gives { λ r. ⌜ Defines c (now (s .entry)) (define-row row (length (now (kinds .entry))) (length (now (widths .entry)))) (now (kinds .exit)) (now (widths .exit)) (row-size * row) r ⌝ }
 {
     if ROWS <= row {
         return Defined::Refused(NO_ABBREVIATION_ROOM, 0, 0);
@@ -434,8 +439,8 @@ fn read_info_definition(
     widths: &mut [u64],
     have: usize,
 ) -> InfoStep
-    requires { ⌜ (have ≤ 32) × (1089 ≤ length (now kinds)) × (1089 ≤ length (now widths)) ⌝ }
-    ensures kept { λ r. ⌜ Outside (33 * have) (33 * have + 33) (now (kinds .entry)) (now (kinds .exit)) × Outside (33 * have) (33 * have + 33) (now (widths .entry)) (now (widths .exit)) ⌝ }
+    requires { ⌜ (have ≤ max-shared) × (shared-slots ≤ length (now kinds)) × (shared-slots ≤ length (now widths)) ⌝ }
+    ensures kept { λ r. ⌜ Outside (row-size * have) (row-size * have + row-size) (now (kinds .entry)) (now (kinds .exit)) × Outside (row-size * have) (row-size * have + row-size) (now (widths .entry)) (now (widths .exit)) ⌝ }
     ensures does { λ r. ⌜ InfoDoes c (now (s .entry)) (info-numbered every (ofChosen chosen) have 2) (now (kinds .exit)) (now (widths .exit)) have r ⌝ }
 {
     match chosen {
@@ -462,8 +467,8 @@ fn read_info_item(
     widths: &mut [u64],
     have: usize,
 ) -> InfoStep
-    requires { ⌜ (have ≤ 32) × (1089 ≤ length (now kinds)) × (1089 ≤ length (now widths)) ⌝ }
-    ensures kept { λ r. ⌜ Outside (33 * have) (33 * have + 33) (now (kinds .entry)) (now (kinds .exit)) × Outside (33 * have) (33 * have + 33) (now (widths .entry)) (now (widths .exit)) ⌝ }
+    requires { ⌜ (have ≤ max-shared) × (shared-slots ≤ length (now kinds)) × (shared-slots ≤ length (now widths)) ⌝ }
+    ensures kept { λ r. ⌜ Outside (row-size * have) (row-size * have + row-size) (now (kinds .entry)) (now (kinds .exit)) × Outside (row-size * have) (row-size * have + row-size) (now (widths .entry)) (now (widths .exit)) ⌝ }
     ensures does { λ r. ⌜ InfoDoes c (now (s .entry)) (info-item every width (ofChosen chosen) have) (now (kinds .exit)) (now (widths .exit)) have r ⌝ }
 {
     match read_number(c, s, width) {
@@ -495,8 +500,8 @@ fn read_info_items(
     owners: &mut [u64],
     shared: usize,
 ) -> Info
-    requires { ⌜ (shared ≤ 32) × (1089 ≤ length (now kinds)) × (1089 ≤ length (now widths)) × (32 ≤ length (now shapes)) × (32 ≤ length (now owners)) ⌝ }
-    ensures kept { λ r. ⌜ Kept shared 33 (tables (now (kinds .entry)) (now (widths .entry)) (now (shapes .entry)) (now (owners .entry))) (tables (now (kinds .exit)) (now (widths .exit)) (now (shapes .exit)) (now (owners .exit))) ⌝ }
+    requires { ⌜ (shared ≤ max-shared) × (shared-slots ≤ length (now kinds)) × (shared-slots ≤ length (now widths)) × (max-shared ≤ length (now shapes)) × (max-shared ≤ length (now owners)) ⌝ }
+    ensures kept { λ r. ⌜ Kept shared local-rows (tables (now (kinds .entry)) (now (widths .entry)) (now (shapes .entry)) (now (owners .entry))) (tables (now (kinds .exit)) (now (widths .exit)) (now (shapes .exit)) (now (owners .exit))) ⌝ }
     ensures is { λ r. ⌜ InfoIs c0 (now (s .entry)) (info-all width shared) shared (tables (now (kinds .entry)) (now (widths .entry)) (now (shapes .entry)) (now (owners .entry))) (tables (now (kinds .exit)) (now (widths .exit)) (now (shapes .exit)) (now (owners .exit))) r ⌝ }
 {
     let mut c = c0;
@@ -536,7 +541,7 @@ pub fn read_block_info_block(
     owners: &mut [u64],
     shared: usize,
 ) -> Info
-    ensures kept { λ r. ⌜ Kept shared 33 (tables (now (kinds .entry)) (now (widths .entry)) (now (shapes .entry)) (now (owners .entry))) (tables (now (kinds .exit)) (now (widths .exit)) (now (shapes .exit)) (now (owners .exit))) ⌝ }
+    ensures kept { λ r. ⌜ Kept shared local-rows (tables (now (kinds .entry)) (now (widths .entry)) (now (shapes .entry)) (now (owners .entry))) (tables (now (kinds .exit)) (now (widths .exit)) (now (shapes .exit)) (now (owners .exit))) ⌝ }
     ensures is { λ r. ⌜ InfoIs c (now (s .entry)) (info-block width shared (tables (now (kinds .entry)) (now (widths .entry)) (now (shapes .entry)) (now (owners .entry)))) shared (tables (now (kinds .entry)) (now (widths .entry)) (now (shapes .entry)) (now (owners .entry))) (tables (now (kinds .exit)) (now (widths .exit)) (now (shapes .exit)) (now (owners .exit))) r ⌝ }
 {
     let at = c.at;

@@ -15,7 +15,7 @@ use Rattle.bits.specs.Told.{Off}
 use Rattle.bits.specs.declared.Cursor.{Cursor}
 use Rattle.abbrev.specs.Abbrev.{Abbrev, define, number-of, look-up}
 use Rattle.abbrev.specs.BlockInfo.{Shared, info}
-use Rattle.abbrev.specs.Tables.{Tables, tables, abbrev-of, row-of, shareds, block-rows, Outside, Kept, Whole, Below, info-all, info-block, Adds, row-at}
+use Rattle.abbrev.specs.Tables.{row-size, first-local, local-rows, Tables, tables, abbrev-of, row-of, shareds, block-rows, Outside, Kept, Whole, Below, info-all, info-block, Adds, row-at}
 use Rattle.abbrev.proofs.Held.{kept-less, kept-shape, shareds-kept, shareds-length, block-rows-kept, block-rows-more, look-up-some, look-up-none}
 use Rattle.abbrev.proofs.Infos.{info-whole}
 use Rattle.walk.specs.Record.{Record, record-list, unabbreviated, rest}
@@ -258,7 +258,7 @@ module _ (s skip : List ℕ) (f : Frame) (m : Marks) (own : List ℕ) (t : Table
 
   module _ (w n : ℕ) (g : Cursor) where
     -- BLOCKINFO: its shared abbreviations stand behind those that there were
-    info-went : (t′ : Tables) (have : ℕ) {xs : List Shared} {to : ℕ} → Kept (m .shared) 33 t t′ → Below (m .shared) own
+    info-went : (t′ : Tables) (have : ℕ) {xs : List Shared} {to : ℕ} → Kept (m .shared) local-rows t t′ → Below (m .shared) own
         → turns (λ k. info k w nothing (length (shareds t 0 (m .shared)))) s (g .at / 8 + n) (g .at) ≡ got xs to
         → shareds t′ 0 have ≡ shareds t 0 (m .shared) ++ xs → m .shared ≤ have → have ≤ 32
         → Went s skip f m (marks (g .at + 8 * n) (m .events) (m .operands) have (m .local)) own t t′ ev ev ops ops (headedAt m 0 w n g)
@@ -288,7 +288,7 @@ module _ (s skip : List ℕ) (f : Frame) (m : Marks) (own : List ℕ) (t : Table
     pub info-refused : {r : Refusal} → Whole t → info-block w (m .shared) t s (g .at / 8 + n) (g .at) ≡ refused r → completed s skip f St (headedAt m 0 w n g) ≡ refused r
     info-refused h z = info-off s skip f St m w n g (sym (info-here h) ∙ z)
 
-    pub info-added : Whole t → Below (m .shared) own → (t′ : Tables) (have : ℕ) → Kept (m .shared) 33 t t′
+    pub info-added : Whole t → Below (m .shared) own → (t′ : Tables) (have : ℕ) → Kept (m .shared) local-rows t t′
         → Adds (record { at = g .at; end = g .at / 8 + n }) s (info-block w (m .shared) t) (m .shared) have t t′
         → Went s skip f m (marks (g .at + 8 * n) (m .events) (m .operands) have (m .local)) own t t′ ev ev ops ops (headedAt m 0 w n g)
     info-added h b t′ have k z = info-went t′ have k b (sym (info-here h) ∙ z .gives) (z .holds) (z .more) (z .most)
@@ -336,20 +336,20 @@ module _ (s skip : List ℕ) (f : Frame) (m : Marks) (own : List ℕ) (t : Table
 
   -- a local definition: one row more
   pub define-went : (at shape : ℕ) (kinds′ widths′ : List ℕ) {x : Answer Refusal Opening}
-      → Outside (33 * (33 + m .local)) (33 * (33 + m .local) + 33) (t .kinds) kinds′
-      → Outside (33 * (33 + m .local)) (33 * (33 + m .local) + 33) (t .widths) widths′ → Below (m .shared) own → 33 + m .local < length (t .shapes) → m .local < 32
-      → x ≡ got (defined (abbrev-of kinds′ widths′ (33 * (33 + m .local)) shape)) at
-      → Went s skip f m (marks at (m .events) (m .operands) (m .shared) (m .local + 1)) own t (tables kinds′ widths′ (set (t .shapes) (33 + m .local) shape) (t .owners)) ev ev ops ops x
+      → Outside (row-size * (first-local + m .local)) (row-size * (first-local + m .local) + row-size) (t .kinds) kinds′
+      → Outside (row-size * (first-local + m .local)) (row-size * (first-local + m .local) + row-size) (t .widths) widths′ → Below (m .shared) own → first-local + m .local < length (t .shapes) → m .local < 32
+      → x ≡ got (defined (abbrev-of kinds′ widths′ (row-size * (first-local + m .local)) shape)) at
+      → Went s skip f m (marks at (m .events) (m .operands) (m .shared) (m .local + 1)) own t (tables kinds′ widths′ (set (t .shapes) (first-local + m .local) shape) (t .owners)) ev ev ops ops x
   unfolding after events counted store added Rattle.walk.specs.Piece.own entries
   define-went at shape kinds′ widths′ k j b h l z =
-      let x₀ : shareds (tables kinds′ widths′ (set (t .shapes) (33 + m .local) shape) (t .owners)) 0 (m .shared) ≡ shareds t 0 (m .shared) ++ [] =
+      let x₀ : shareds (tables kinds′ widths′ (set (t .shapes) (first-local + m .local) shape) (t .owners)) 0 (m .shared) ≡ shareds t 0 (m .shared) ++ [] =
       shareds-kept {have = m .shared} {local = m .local} (kept-shape shape k j) (m .shared) (omega arith) (omega (arith, sits .shared)) ∙ sym (append-nil (shareds t 0 (m .shared))) in
       let x₁ = block-rows-more t own (f .base) (m .local) shape k j b (omega (arith, sits .shared)) (sits .base) h in
       let x₃ : (length ev - m .events) / event-size ≡ (length ev - m .events) / event-size - 0 = omega arith in
       let x₄ : m .operands ≡ m .operands + 0 = omega arith in
       let x₅ : length ops - m .operands ≡ length ops - m .operands - 0 = omega arith in
       record {
-        piece = definition (abbrev-of kinds′ widths′ (33 * (33 + m .local)) shape);
+        piece = definition (abbrev-of kinds′ widths′ (row-size * (first-local + m .local)) shape);
         gives = completed-defined s skip f St z;
         state = cc;
         room = room-none m at (m .shared) (m .local + 1) ev ops (sits .events) (sits .operands);

@@ -16,7 +16,7 @@ use Rattle.bitcode.specs.declared.Signature.{Signature}
 use Rattle.bitcode.specs.declared.Parsed.the-variants as P
 use Rattle.bitcode.specs.Header.{Opened, unsigned, opened, signature, parsed, stream}
 use Rattle.abbrev.specs.BlockInfo.{shared-for}
-use Rattle.abbrev.specs.Tables.{Tables, tables, shareds, Whole, nothing-held}
+use Rattle.abbrev.specs.Tables.{slot-count, Tables, tables, shareds, Whole, nothing-held, row-count}
 use Rattle.abbrev.specs.declared.Abbreviations.{Abbreviations}
 use Rattle.walk.specs.Piece.{Pieces, all-events, all-store}
 use Rattle.walk.specs.Item.{items, nested}
@@ -74,7 +74,7 @@ long l n e = ap length e ∙ length-replicate n 0
 
 pub new-whole : (a : Abbreviations) → nothing-held a → Whole (tables (a .kinds) (a .widths) (a .shapes) (a .owners))
 new-whole a h =
-    record { kinds = long (a .kinds) 2178 (h .0); widths = long (a .widths) 2178 (h .1); shapes = long (a .shapes) 66 (h .2); owners = long (a .owners) 32 (h .3) }
+    record { kinds = long (a .kinds) slot-count (h .0); widths = long (a .widths) slot-count (h .1); shapes = long (a .shapes) row-count (h .2); owners = long (a .owners) 32 (h .3) }
 
 pub stream-is : (s skip ev ev′ ops ops′ : List ℕ) (t t′ : Tables) (have local : ℕ) (r : Done) → have ≡ 0 → local ≡ 0
     → Is s skip (outermost (length s)) (marks 0 0 0 have local) t t′ ev ev′ ops ops′ r → Streams s skip ev ev′ ops ops′ r

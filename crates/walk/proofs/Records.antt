@@ -20,7 +20,7 @@ use Rattle.bitcode.specs.declared.ScalarOperand.{ScalarOperand}
 use Rattle.bitcode.specs.declared.ScalarOperand.the-variants.{Vbr}
 use Rattle.bitcode.specs.Scalar.{value}
 use Rattle.abbrev.specs.Abbrev.{Payload, none, blob, array, abbreviation}
-use Rattle.abbrev.specs.Tables.{slot, slots, load-of, abbrev-of}
+use Rattle.abbrev.specs.Tables.{row-size, slot, slots, load-of, abbrev-of}
 use Rattle.walk.specs.Record.{Load, no-load, list-load, blob-load, a-record, values, repeated, octets, bytes-if, bytes, payload-part, scalar-part, unabbreviated, array-kind, rest, load-list, record-list}
 use Rattle.walk.specs.Piece.{Head, head, record-event, record-of}
 use Rattle.walk.specs.Item.{heading, fits}
@@ -164,17 +164,17 @@ loads-behind f ops ops′ r (G.Refused n u v) x z = then-off f x z
 
 -- ---- a record by the abbreviation of a row
 module _ (left : ℕ) (kinds widths : List ℕ) (base shape : ℕ) where
-  pub no-scalar : {s : List ℕ} {e p : ℕ} → shape % 33 ≡ 0 → Off (abbreviated left (abbrev-of kinds widths base shape)) s e p invalid-abbrev
+  pub no-scalar : {s : List ℕ} {e p : ℕ} → shape % row-size ≡ 0 → Off (abbreviated left (abbrev-of kinds widths base shape)) s e p invalid-abbrev
   unfolding abbrev-of slots abbreviated scalar-part stop
   no-scalar h = rw h (off _ (record { why = refl }))
 
-  module _ (some : 0 < shape % 33) where
+  module _ (some : 0 < shape % row-size) where
     row-reader : abbreviated left (abbrev-of kinds widths base shape)
-        ≡ (value (slot kinds widths base) >>= (λ code. values left (slots kinds widths (base + 1) (shape % 33 - 1)) >>= (λ vs.
-        load (left - length vs) (load-of (shape / 33) (slot kinds widths (base + shape % 33))) >>= (λ l. give (a-record code vs l)))))
+        ≡ (value (slot kinds widths base) >>= (λ code. values left (slots kinds widths (base + 1) (shape % row-size - 1)) >>= (λ vs.
+        load (left - length vs) (load-of (shape / row-size) (slot kinds widths (base + shape % row-size))) >>= (λ l. give (a-record code vs l)))))
     unfolding abbrev-of
     row-reader =
-        ap (λ xs. abbreviated left (abbreviation xs (load-of (shape / 33) (slot kinds widths (base + shape % 33))))) (slots-first kinds widths base (shape % 33) some)
+        ap (λ xs. abbreviated left (abbreviation xs (load-of (shape / row-size) (slot kinds widths (base + shape % row-size))))) (slots-first kinds widths base (shape % row-size) some)
         ∙ abbreviated-is _ _ _ _
 
     pub code-off : {c : Cursor} {s : List ℕ} {r : No} → Off (value (slot kinds widths base)) s (c .end) (c .at) r
@@ -182,16 +182,16 @@ module _ (left : ℕ) (kinds widths : List ℕ) (base shape : ℕ) where
     code-off x = rw row-reader (off _ x)
 
     pub values-off : {c d : Cursor} {s : List ℕ} {code : ℕ} {r : No} → At (value (slot kinds widths base)) s (c .end) (c .at) code d
-        → Off (values left (slots kinds widths (base + 1) (shape % 33 - 1))) s (d .end) (d .at) r
+        → Off (values left (slots kinds widths (base + 1) (shape % row-size - 1))) s (d .end) (d .at) r
         → Off (abbreviated left (abbrev-of kinds widths base shape)) s (c .end) (c .at) r
     values-off x y = rw row-reader (then-off _ x (off _ y))
 
     -- the payload is behind the operands
     pub load-told : {c d g : Cursor} {s : List ℕ} {code : ℕ} (fill : ℕ) (vs ops ops₁ ops′ : List ℕ) (t : Got)
         → At (value (slot kinds widths base)) s (c .end) (c .at) code d
-        → At (values left (slots kinds widths (base + 1) (shape % 33 - 1))) s (d .end) (d .at) vs g → length vs ≡ shape % 33 - 1
-        → take (fill + (shape % 33 - 1)) ops₁ ≡ take fill ops ++ vs
-        → Loaded g s (load (left - length vs) (load-of (shape / 33) (slot kinds widths (base + shape % 33)))) ops₁ ops′ (record-read code (shape % 33 - 1) 0 0 0 (fill + (shape % 33 - 1))) t
+        → At (values left (slots kinds widths (base + 1) (shape % row-size - 1))) s (d .end) (d .at) vs g → length vs ≡ shape % row-size - 1
+        → take (fill + (shape % row-size - 1)) ops₁ ≡ take fill ops ++ vs
+        → Loaded g s (load (left - length vs) (load-of (shape / row-size) (slot kinds widths (base + shape % row-size)))) ops₁ ops′ (record-read code (shape % row-size - 1) 0 0 0 (fill + (shape % row-size - 1))) t
         → Recorded c s (abbreviated left (abbrev-of kinds widths base shape)) fill ops ops′ t
     unfolding record-list
     load-told {code = code} fill vs ops ops₁ ops′ (G.Of r k) x y e w z = record {

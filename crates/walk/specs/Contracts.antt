@@ -6,7 +6,7 @@ use mathlib.Core.List.{List, [], _∷_, _++_}
 use mathlib.Core.Option.{Option, none as nothing, some}
 use Prim.Native.Nat.{ℕ, _+_, _-_, _*_, _/_, _≤_, _<_}
 use lib.ListN.{length, take, replicate}
-use Rattle.terms.specs.Limits.{event-size}
+use Rattle.terms.specs.Limits.{event-size, max-shared, max-local}
 use Rattle.terms.specs.Refusals.{No, no, Refusal, refusal}
 use Rattle.bits.specs.Reader.{Reader, Answer, got, refused, onward, _>>=_, _>>_, give, if_then_else_, here, turns, placed}
 use Rattle.bits.specs.Bits.{limit, read, vbr, align}
@@ -91,9 +91,9 @@ startOf f m t ne nops = record {
 pub record Sits (ne nops : ℕ) (f : Frame) (m : Marks) : Type 0 where
   pub events : m .events ≤ ne
   pub operands : m .operands ≤ nops
-  pub shared : m .shared ≤ 32
+  pub shared : m .shared ≤ max-shared
   pub base : f .base ≤ m .local
-  pub local : m .local ≤ 32
+  pub local : m .local ≤ max-local
 
 -- the marks m′ are behind m: es more numbers are in the event store, os in the operand store
 pub record Room (m m′ : Marks) (ev ev′ ops ops′ es os : List ℕ) : Type 0 where
@@ -172,7 +172,7 @@ pub record Visited (s skip : List ℕ) (f : Frame) (m m′ : Marks) (t t′ : Ta
   pub room : Room m m′ ev ev′ ops ops′ (entries (all-events pieces) ++ entries (closed f)) (all-store pieces)
   pub shareds-are : shareds t′ 0 (m′ .shared) ≡ shareds t 0 (m .shared) ++ all-added pieces
   pub more : m .shared ≤ m′ .shared
-  pub most : m′ .shared ≤ 32
+  pub most : m′ .shared ≤ max-shared
   pub freed : m′ .local ≡ f .base
 
 abbrev pub Is : List ℕ → List ℕ → Frame → Marks → Tables → Tables → List ℕ → List ℕ → List ℕ → List ℕ → Done → Type 0

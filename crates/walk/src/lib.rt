@@ -1,5 +1,6 @@
 // The walk (src/read.rs and src/visitor.rs of the Rust): bytes in; events and operands into lent stores, or a numbered refusal with its bit place.
 // A block's walk calls itself with one level less to go. Tables and stores are lent all the way down; what goes along by value is small.
+use abbrev::ARRAY_SHAPE;
 use abbrev::AbbrevNumber;
 use abbrev::Abbreviations;
 use abbrev::BlockNumber;
@@ -35,11 +36,11 @@ ghost use mathlib.Core.List.{List, [], _∷_, _++_};
 ghost use mathlib.Core.Bool.{true, false};
 ghost use Prim.Native.Nat.{ℕ, _+_, _-_, _*_, _/_, _%_, _≤_, _<_};
 ghost use lib.ListN.{length, take, replicate};
-ghost use Rattle.terms.specs.Limits.{event-size};
+ghost use Rattle.terms.specs.Limits.{event-size, max-shared, max-local};
 ghost use Rattle.terms.specs.Refusals.{refusal};
 ghost use Rattle.bits.specs.Bits.{limit};
 ghost use Rattle.abbrev.specs.Abbrev.{array, blob};
-ghost use Rattle.abbrev.specs.Tables.{Tables, tables, slots, slot, abbrev-of, Whole, Kept, Below};
+ghost use Rattle.abbrev.specs.Tables.{row-size, row-count, slot-count, Tables, tables, slots, slot, abbrev-of, Whole, Kept, Below};
 ghost use Rattle.walk.specs.Record.{repeated, values, array-kind};
 ghost use Rattle.walk.specs.Walk.{listed as listedIn, walked};
 ghost use Rattle.walk.specs.Contracts.{entryOf, frame, marks, refusalOf, Sits, Behind, Does, openingOf, numberedOf, headedAt, Is, Runs, Recorded, plain, abbreviated, load, Loaded, blob-bytes, head-length, head-width, head-fits, Heads, Tells, Streams, Denies, Accepts, answer};
@@ -366,7 +367,7 @@ fn fill_values(
     count: usize,
     rest: &mut [u64],
 ) -> Run
-    requires { ⌜ (length (now kinds) ≡ 2178) × (length (now widths) ≡ 2178) × (from + count ≤ 2178) ⌝ }
+    requires { ⌜ (length (now kinds) ≡ slot-count) × (length (now widths) ≡ slot-count) × (from + count ≤ slot-count) ⌝ }
     ensures { λ r. ⌜ Runs c0 (now (s .entry)) (values (length (now (rest .entry))) (slots (now (kinds .entry)) (now (widths .entry)) from count)) count (now (rest .exit)) r ⌝ }
 {
     let mut c = c0;
@@ -478,11 +479,11 @@ fn read_abbreviated(
     operands: &mut [u64],
     fill: usize,
 ) -> Got
-    requires { ⌜ (length (now kinds) ≡ 2178) × (length (now widths) ≡ 2178) × (base + 33 ≤ 2178) × (fill ≤ length (now operands)) ⌝ }
+    requires { ⌜ (length (now kinds) ≡ slot-count) × (length (now widths) ≡ slot-count) × (base + row-size ≤ slot-count) × (fill ≤ length (now operands)) ⌝ }
     ensures { λ r. ⌜ Recorded c (now (s .entry)) (abbreviated (length (now (operands .entry)) - fill) (abbrev-of (now (kinds .entry)) (now (widths .entry)) base shape)) fill (now (operands .entry)) (now (operands .exit)) r ⌝ }
 {
-    let n = (shape % 33) as usize;
-    let l = shape / 33;
+    let n = (shape % ARRAY_SHAPE) as usize;
+    let l = shape / ARRAY_SHAPE;
     if n == 0 {
         return Got::Refused(INVALID_ABBREV, 0, 0);
     }
@@ -620,7 +621,7 @@ fn read_info(
     owners: &mut [u64; MAX_SHARED],
 ) -> Step
     requires { ⌜ Whole (tables (now kinds) (now widths) (now shapes) (now owners)) ⌝ }
-    requires { ⌜ (m .shared ≤ 32) × (f .base ≤ m .local) × (m .local ≤ 32) × (g .at + 8 * n ≤ 18446744073709551615) ⌝ }
+    requires { ⌜ (m .shared ≤ max-shared) × (f .base ≤ m .local) × (m .local ≤ max-local) × (g .at + 8 * n ≤ 18446744073709551615) ⌝ }
     ensures kept { λ r. ⌜ Kept (m .shared) (m .local) (tables (now (kinds .entry)) (now (widths .entry)) (now (shapes .entry)) (now (owners .entry))) (tables (now (kinds .exit)) (now (widths .exit)) (now (shapes .exit)) (now (owners .exit))) ⌝ }
     ensures does { λ r. ⌜ ((skip own ev ops : List ℕ) → Below (m .shared) own → Sits (length ev) (length ops) f m → Does (now (s .entry)) skip f m own (tables (now (kinds .entry)) (now (widths .entry)) (now (shapes .entry)) (now (owners .entry))) (tables (now (kinds .exit)) (now (widths .exit)) (now (shapes .exit)) (now (owners .exit))) ev ev ops ops (headedAt m 0 w n g) r) ⌝ }
 {
@@ -677,7 +678,7 @@ fn enter_sub_block(
     events: &mut [u64],
 ) -> Step
     requires { ⌜ Whole (tables (now kinds) (now widths) (now shapes) (now owners)) ⌝ }
-    requires { ⌜ (m .events ≤ length (now events)) × (m .shared ≤ 32) × (f .base ≤ m .local) × (m .local ≤ 32) × Behind f d ⌝ }
+    requires { ⌜ (m .events ≤ length (now events)) × (m .shared ≤ max-shared) × (f .base ≤ m .local) × (m .local ≤ max-local) × Behind f d ⌝ }
     ensures kept { λ r. ⌜ Kept (m .shared) (m .local) (tables (now (kinds .entry)) (now (widths .entry)) (now (shapes .entry)) (now (owners .entry))) (tables (now (kinds .exit)) (now (widths .exit)) (now (shapes .exit)) (now (owners .exit))) ⌝ }
     ensures does { λ r. ⌜ ((own ops : List ℕ) → Below (m .shared) own → Sits (length (now (events .entry))) (length ops) f m → Does (now (s .entry)) (now (skip .entry)) f m own (tables (now (kinds .entry)) (now (widths .entry)) (now (shapes .entry)) (now (owners .entry))) (tables (now (kinds .exit)) (now (widths .exit)) (now (shapes .exit)) (now (owners .exit))) (now (events .entry)) (now (events .exit)) ops ops (numberedOf (now (s .entry)) f m own (tables (now (kinds .entry)) (now (widths .entry)) (now (shapes .entry)) (now (owners .entry))) (length (now (events .entry))) (length ops) 1 d) r) ⌝ }
 {
@@ -705,8 +706,8 @@ fn define_local(
     widths: &mut [u64; SLOTS],
     shapes: &mut [u64; ROWS],
 ) -> Step
-    requires { ⌜ (length (now kinds) ≡ 2178) × (length (now widths) ≡ 2178) × (length (now shapes) ≡ 66) ⌝ }
-    requires { ⌜ (m .shared ≤ 32) × (f .base ≤ m .local) × (m .local ≤ 32) × Behind f d ⌝ }
+    requires { ⌜ (length (now kinds) ≡ slot-count) × (length (now widths) ≡ slot-count) × (length (now shapes) ≡ row-count) ⌝ }
+    requires { ⌜ (m .shared ≤ max-shared) × (f .base ≤ m .local) × (m .local ≤ max-local) × Behind f d ⌝ }
     ensures kept { λ r. ⌜ ((ow : List ℕ) → Kept (m .shared) (m .local) (tables (now (kinds .entry)) (now (widths .entry)) (now (shapes .entry)) ow) (tables (now (kinds .exit)) (now (widths .exit)) (now (shapes .exit)) ow)) ⌝ }
     ensures does { λ r. ⌜ ((skip own ev ops ow : List ℕ) → Below (m .shared) own → Sits (length ev) (length ops) f m → Does (now (s .entry)) skip f m own (tables (now (kinds .entry)) (now (widths .entry)) (now (shapes .entry)) ow) (tables (now (kinds .exit)) (now (widths .exit)) (now (shapes .exit)) ow) ev ev ops ops (numberedOf (now (s .entry)) f m own (tables (now (kinds .entry)) (now (widths .entry)) (now (shapes .entry)) ow) (length ev) (length ops) 2 d) r) ⌝ }
 {
@@ -781,7 +782,7 @@ fn record_abbreviated(
     events: &mut [u64],
     operands: &mut [u64],
 ) -> Step
-    requires { ⌜ (length (now kinds) ≡ 2178) × (length (now widths) ≡ 2178) × (length (now shapes) ≡ 66) ⌝ }
+    requires { ⌜ (length (now kinds) ≡ slot-count) × (length (now widths) ≡ slot-count) × (length (now shapes) ≡ row-count) ⌝ }
     requires { ⌜ Sits (length (now events)) (length (now operands)) f m × Behind f d × (4 ≤ n) × Below (m .shared) (now own) ⌝ }
     ensures { λ r. ⌜ ((skip ow : List ℕ) → Does (now (s .entry)) skip f m (now (own .entry)) (tables (now (kinds .entry)) (now (widths .entry)) (now (shapes .entry)) ow) (tables (now (kinds .entry)) (now (widths .entry)) (now (shapes .entry)) ow) (now (events .entry)) (now (events .exit)) (now (operands .entry)) (now (operands .exit)) (numberedOf (now (s .entry)) f m (now (own .entry)) (tables (now (kinds .entry)) (now (widths .entry)) (now (shapes .entry)) ow) (length (now (events .entry))) (length (now (operands .entry))) n d) r) ⌝ }
 {

@@ -3,14 +3,14 @@ use borrow.Author.Needs.{needs}
 use borrow.Author.Tests.{le-leb, lt-leb, lt-ltb, le-ltb}
 use Rattle.bits.proofs.Steps.{off, then-off, pass-off, fail}
 use Rattle.abbrev.specs.Abbrev.{define}
-use Rattle.abbrev.specs.Tables.{define-row}
+use Rattle.abbrev.specs.Tables.{define-row, row-count}
 use Rattle.abbrev.proofs.Rows.{outside-refl, row-fits, define-more}
 use Rattle.abbrev.proofs.define_abbrev.Statement.{statement}
 use Rattle.abbrev.proofs.define_abbrev.Tie as tie
 
 returns : tie.Need-returns
 unfolding define-row
-returns c = ((outside-refl _ _ _, outside-refl _ _ _), fail _ (rw (le-ltb _ 66 (c .if1 .taken))))
+returns c = ((outside-refl _ _ _, outside-refl _ _ _), fail _ (rw (le-ltb _ row-count (c .if1 .taken))))
 
 mul-base : tie.Need-mul-base
 mul-base c = search needs
@@ -20,14 +20,14 @@ add-if2 c = search needs
 
 returns-2 : tie.Need-returns-2
 unfolding define-row
-returns-2 c = ((outside-refl _ _ _, outside-refl _ _ _), fail _ (rw (lt-ltb _ 66 (c .before .if1 .left), lt-leb _ _ (c .if2 .taken))))
+returns-2 c = ((outside-refl _ _ _, outside-refl _ _ _), fail _ (rw (lt-ltb _ row-count (c .before .if1 .left), lt-leb _ _ (c .if2 .taken))))
 
 add-if3 : tie.Need-add-if3
 add-if3 c = search needs
 
 returns-3 : tie.Need-returns-3
 unfolding define-row
-returns-3 c = ((outside-refl _ _ _, outside-refl _ _ _), fail _ (rw (lt-ltb _ 66 (c .before .before .if1 .left), le-leb _ _ (c .before .if2 .left), lt-leb _ _ (c .if3 .taken))))
+returns-3 c = ((outside-refl _ _ _, outside-refl _ _ _), fail _ (rw (lt-ltb _ row-count (c .before .before .if1 .left), le-leb _ _ (c .before .if2 .left), lt-leb _ _ (c .if3 .taken))))
 
 read-vbr-requires : tie.Need-read-vbr-requires
 read-vbr-requires c κs = search needs

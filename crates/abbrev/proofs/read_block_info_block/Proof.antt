@@ -3,7 +3,7 @@ use mathlib.Core.Logic.{⊎-elim}
 use native.Mathlib.Omega.{arith}
 use lib.ListN.{length}
 use borrow.Author.Tests.{ltb-true, ltb-false}
-use Rattle.abbrev.specs.Tables.{tables}
+use Rattle.abbrev.specs.Tables.{shared-slots, tables}
 use Rattle.abbrev.proofs.Held.{kept-refl}
 use Rattle.abbrev.proofs.Infos.{info-unfit, info-is}
 use borrow.Author.Needs.{needs}
@@ -14,7 +14,7 @@ returns : tie.Need-returns
 returns c = (kept-refl _ _ _, info-unfit _ _ _ _ _ _ (λ h i j k l. omega arith))
 
 returns-2 : tie.Need-returns-2
-returns-2 c = (kept-refl _ _ _, info-unfit _ _ _ _ _ _ (λ h i j k l. ⊎-elim (λ w. omega arith) (λ w. omega (arith, ltb-true (length (c .before .before .before .before .before .before .before .args .widths .now)) 1089 (w .1 .taken))) (c .if2 .came)))
+returns-2 c = (kept-refl _ _ _, info-unfit _ _ _ _ _ _ (λ h i j k l. ⊎-elim (λ w. omega arith) (λ w. omega (arith, ltb-true (length (c .before .before .before .before .before .before .before .args .widths .now)) shared-slots (w .1 .taken))) (c .if2 .came)))
 
 returns-3 : tie.Need-returns-3
 returns-3 c = (kept-refl _ _ _, info-unfit _ _ _ _ _ _ (λ h i j k l. ⊎-elim (λ w. omega arith) (λ w. omega (arith, ltb-true (length (c .before .before .before .before .before .before .before .before .before .args .owners .now)) 32 (w .1 .taken))) (c .if4 .came)))

@@ -7,7 +7,7 @@ use denote.Ref.{now}
 use lib.ListN.{length, take}
 use lib.Seq.{length-take-le}
 use borrow.Rule.Slice.PartMut.{putMid, mid-len}
-use Rattle.abbrev.specs.Tables.{slot}
+use Rattle.abbrev.specs.Tables.{row-size, slot}
 use Rattle.walk.specs.declared.Got.the-variants as G
 use Rattle.walk.proofs.Stores.{take-put-front}
 use Rattle.walk.proofs.Records.{no-scalar, code-off, values-off, load-told, none-loads, array-told, blob-told}
@@ -90,7 +90,7 @@ returns-2 c =
     let e = mid-len fill (length ops) ops (omega arith) in
     let x = rw (c .before .before .before .before .before .before .before .before .before .before .before .before .scalar-operand .ensures) at (rw (c .before .before .before .before .before .before .before .before .before .code .given .1) at (c .before .before .before .before .before .before .before .before .before .before .before .read-scalar-operand .ensures)) in
     let z = rw e at (rw (c .before .before .g .given .1) at (c .before .before .before .before .before .before .fill-values .ensures)) in
-    let n = a .shape % 33 in
+    let n = a .shape % row-size in
     let ys = c .before .before .before .before .before .before .fill-values .last .1 .1 .1 .1 .1 .1 .0 in
     let ops1 = putMid fill (length ops - fill) ops ys in
     let pr = c .before .before .before .before .before .before .before .before .before .before .before .before .before .before .before .before .before .before .pre in
@@ -100,7 +100,7 @@ returns-2 c =
     let o0 = c .before .before .before .before .before .operands .given .0 in
     let o1 = c .before .before .before .before .before .operands .given .1 in
     let h : fill + (n - 1) ≤ length ops1 = omega (arith, pr .3, some, o0, o1, e, z .1) in
-    load-told (length ops - fill) (now (a .kinds)) (now (a .widths)) (a .base) (a .shape) some fill (take (n - 1) ys) ops ops1 ops1 (G.Of _ _) x (z .0) l w (none-loads _ (a .shape / 33) _ (n - 1) (fill + (n - 1)) _ ops1 (c .if2 .taken) h)
+    load-told (length ops - fill) (now (a .kinds)) (now (a .widths)) (a .base) (a .shape) some fill (take (n - 1) ys) ops ops1 ops1 (G.Of _ _) x (z .0) l w (none-loads _ (a .shape / row-size) _ (n - 1) (fill + (n - 1)) _ ops1 (c .if2 .taken) h)
 
 add-scalar-operand : tie.Need-add-scalar-operand
 add-scalar-operand c = search needs
@@ -140,7 +140,7 @@ returns-3 c =
     let e = mid-len fill (length ops) ops (omega arith) in
     let x = rw (c .before .before .before .before .before .before .before .before .before .before .before .before .before .before .before .before .before .before .before .before .scalar-operand .ensures) at (rw (c .before .before .before .before .before .before .before .before .before .before .before .before .before .before .before .before .before .code .given .1) at (c .before .before .before .before .before .before .before .before .before .before .before .before .before .before .before .before .before .before .before .read-scalar-operand .ensures)) in
     let z = rw e at (rw (c .before .before .before .before .before .before .before .before .before .before .g .given .1) at (c .before .before .before .before .before .before .before .before .before .before .before .before .before .before .fill-values .ensures)) in
-    let n = a .shape % 33 in
+    let n = a .shape % row-size in
     let ys = c .before .before .before .before .before .before .before .before .before .before .before .before .before .before .fill-values .last .1 .1 .1 .1 .1 .1 .0 in
     let ops1 = putMid fill (length ops - fill) ops ys in
     let pr = c .before .before .before .before .before .before .before .before .before .before .before .before .before .before .before .before .before .before .before .before .before .before .before .before .before .before .pre in
@@ -150,7 +150,7 @@ returns-3 c =
     let o0 = c .before .before .before .before .before .before .before .before .before .before .before .before .before .operands .given .0 in
     let o1 = c .before .before .before .before .before .before .before .before .before .before .before .before .before .operands .given .1 in
     let q : length ops1 - (fill + (n - 1)) ≡ length ops - fill - length (take (n - 1) ys) = omega (arith, pr .3, some, o0, o1, e, l, z .1) in
-    load-told (length ops - fill) (now (a .kinds)) (now (a .widths)) (a .base) (a .shape) some fill (take (n - 1) ys) ops ops1 _ (c .before .before .read-array .result) x (z .0) l w (array-told _ _ _ _ (a .shape / 33) (slot (now (a .kinds)) (now (a .widths)) (a .base + n)) ops1 _ _ (c .before .before .read-array .result) (c .before .before .before .before .before .before .before .if3 .taken) q (rw (c .before .before .before .before .scalar-operand2 .ensures) at (c .before .before .read-array .ensures)))
+    load-told (length ops - fill) (now (a .kinds)) (now (a .widths)) (a .base) (a .shape) some fill (take (n - 1) ys) ops ops1 _ (c .before .before .read-array .result) x (z .0) l w (array-told _ _ _ _ (a .shape / row-size) (slot (now (a .kinds)) (now (a .widths)) (a .base + n)) ops1 _ _ (c .before .before .read-array .result) (c .before .before .before .before .before .before .before .if3 .taken) q (rw (c .before .before .before .before .scalar-operand2 .ensures) at (c .before .before .read-array .ensures)))
 
 read-blob-requires : tie.Need-read-blob-requires
 read-blob-requires c κs = search needs
@@ -182,7 +182,7 @@ returns-6 c =
     let e = mid-len fill (length ops) ops (omega arith) in
     let x = rw (c .before .before .before .before .before .before .before .before .before .before .before .before .before .before .scalar-operand .ensures) at (rw (c .before .before .before .before .before .before .before .before .before .before .before .code .given .1) at (c .before .before .before .before .before .before .before .before .before .before .before .before .before .read-scalar-operand .ensures)) in
     let z = rw e at (rw (c .before .before .before .before .g .given .1) at (c .before .before .before .before .before .before .before .before .fill-values .ensures)) in
-    let n = a .shape % 33 in
+    let n = a .shape % row-size in
     let ys = c .before .before .before .before .before .before .before .before .fill-values .last .1 .1 .1 .1 .1 .1 .0 in
     let ops1 = putMid fill (length ops - fill) ops ys in
     let pr = c .before .before .before .before .before .before .before .before .before .before .before .before .before .before .before .before .before .before .before .before .pre in
@@ -192,7 +192,7 @@ returns-6 c =
     let o0 = c .before .before .before .before .before .before .before .operands .given .0 in
     let o1 = c .before .before .before .before .before .before .before .operands .given .1 in
     let h : fill + (n - 1) ≤ length ops1 = omega (arith, pr .3, some, o0, o1, e, z .1) in
-    load-told (length ops - fill) (now (a .kinds)) (now (a .widths)) (a .base) (a .shape) some fill (take (n - 1) ys) ops ops1 ops1 (c .read-blob .result) x (z .0) l w (blob-told _ _ _ (a .shape / 33) _ ops1 ops1 _ (c .read-blob .result) (c .before .before .if2 .left) (c .before .if3 .left) (c .read-blob .ensures _ ops1 h))
+    load-told (length ops - fill) (now (a .kinds)) (now (a .widths)) (a .base) (a .shape) some fill (take (n - 1) ys) ops ops1 ops1 (c .read-blob .result) x (z .0) l w (blob-told _ _ _ (a .shape / row-size) _ ops1 ops1 _ (c .read-blob .result) (c .before .before .if2 .left) (c .before .if3 .left) (c .read-blob .ensures _ ops1 h))
 
 pub read-abbreviated-spec : {M : Type 1} → statement M
 read-abbreviated-spec =
