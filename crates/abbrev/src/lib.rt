@@ -65,13 +65,13 @@ pub struct Abbreviations {
 }
 
 // A width and the cursor behind it, or a refusal's number and details; so for each answer below.
-pub enum OperandWidth {
+enum OperandWidth {
     Bits(u64, Cursor),
     Refused(u64, u64, u64),
 }
 
 // An operand of a definition: a kind with its width or value, an array, a blob.
-pub enum Operand {
+enum Operand {
     Scalar(u8, u64, Cursor),
     Array(Cursor),
     Blob(Cursor),
@@ -85,25 +85,25 @@ pub enum Defined {
 }
 
 // The block that SETBID chose in this BLOCKINFO.
-pub enum Chosen {
+enum Chosen {
     Nothing,
     Block(BlockNumber),
 }
 
 // A record of BLOCKINFO: the block that is chosen behind it.
-pub enum Named {
+enum Named {
     Now(Chosen, Cursor),
     Refused(u64, u64, u64),
 }
 
 // Name letters.
-pub enum Letters {
+enum Letters {
     Behind(Cursor),
     Refused(u64, u64, u64),
 }
 
 // An item of BLOCKINFO: its end; one shared abbreviation more, with its block and its shape; or the block that is chosen behind a record.
-pub enum InfoStep {
+enum InfoStep {
     End(Cursor),
     Adds(BlockNumber, u64, Cursor),
     Now(Chosen, Cursor),

@@ -70,63 +70,63 @@ pub struct Walked {
 }
 
 // A refusal of the walk.
-pub struct Refused {
-    pub number: u64,
-    pub place: u64,
-    pub first: u64,
-    pub second: u64,
+struct Refused {
+    number: u64,
+    place: u64,
+    first: u64,
+    second: u64,
 }
 
 // How far the walk has come: the next bit, how many numbers each store holds, and how many shared and local abbreviations the tables hold.
-pub struct Marks {
-    pub at: u64,
-    pub events: usize,
-    pub operands: usize,
-    pub shared: usize,
-    pub local: usize,
+struct Marks {
+    at: u64,
+    events: usize,
+    operands: usize,
+    shared: usize,
+    local: usize,
 }
 
 // The block that is walked: its number and width, its end in bytes, the levels to go below it, whether it is the top level, and how many local
 // abbreviations the blocks around it have.
-pub struct Frame {
-    pub number: u64,
-    pub width: u64,
-    pub end: u64,
-    pub left: u64,
-    pub top: bool,
-    pub base: usize,
+struct Frame {
+    number: u64,
+    width: u64,
+    end: u64,
+    left: u64,
+    top: bool,
+    base: usize,
 }
 
 // An event's eight numbers.
-pub struct Entry {
-    pub kind: u64,
-    pub block: u64,
-    pub a: u64,
-    pub b: u64,
-    pub c: u64,
-    pub d: u64,
-    pub e: u64,
-    pub f: u64,
+struct Entry {
+    kind: u64,
+    block: u64,
+    a: u64,
+    b: u64,
+    c: u64,
+    d: u64,
+    e: u64,
+    f: u64,
 }
 
 // A record as it was read: its code, how many operands, its payload's kind, place and length, and the operand store's fill mark behind it.
-pub struct RecordRead {
-    pub code: u64,
-    pub count: u64,
-    pub kind: u64,
-    pub at: u64,
-    pub length: u64,
-    pub fill: usize,
+struct RecordRead {
+    code: u64,
+    count: u64,
+    kind: u64,
+    at: u64,
+    length: u64,
+    fill: usize,
 }
 
 // A block's walk.
-pub enum Done {
+enum Done {
     Go(Marks),
     No(Refused),
 }
 
 // An item: the walk goes on; or it goes into a block, of this number, width and length; or the block ends.
-pub enum Step {
+enum Step {
     Go(Marks),
     Into(Marks, u64, u64, u64),
     End(Marks),
@@ -134,19 +134,19 @@ pub enum Step {
 }
 
 // A run of operands.
-pub enum Run {
+enum Run {
     To(Cursor),
     Refused(u64),
 }
 
 // A record, or a refusal's number and details; so for a head.
-pub enum Got {
+enum Got {
     Of(RecordRead, Cursor),
     Refused(u64, u64, u64),
 }
 
 // A block's head whose body fits: number, width, length in bytes, and the cursor at the body.
-pub enum HeadRead {
+enum HeadRead {
     At(u64, u64, u64, Cursor),
     Refused(u64, u64, u64),
 }
