@@ -381,10 +381,8 @@ def walk(data, skips, events_size, operands_size):
     return result
 
 # ------------------------------------------------------------------------------- Bench samples: the dump
-def dump(data):
-    long = len(data) > DUMP_INPUT_LIMIT
-    w = walk(b'' if long else data, [], DUMP_STORE, DUMP_STORE)
-    w['status'] = 15 if long else w['status']
+def show(w):
+    """The dump of what walk() gives."""
     lines = ['status={status} place={place} first={first} second={second}'.format(**w)]
 
     def numbers(place, count):  # "Lists are comma-separated; an empty one is `-`."
@@ -403,6 +401,12 @@ def dump(data):
                 line += ' code=%d operands=%s payload=%s' % (a, numbers(b, c), payload)
             lines.append(line)
     return ''.join(line + '\n' for line in lines)
+
+def dump(data):
+    long = len(data) > DUMP_INPUT_LIMIT
+    w = walk(b'' if long else data, [], DUMP_STORE, DUMP_STORE)
+    w['status'] = 15 if long else w['status']
+    return show(w)
 
 # ------------------------------------------------------------------------------- Bench samples
 def pack(fields):

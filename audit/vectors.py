@@ -1,4 +1,4 @@
-"""Makes crates/probe/stdin (questions) and crates/probe/stdout (what they are to be answered).
+"""Makes crates/probe/stdin (questions) and crates/probe/stdout (what they are to be answered), and by vectors_walk.py the same for trial and dump.
 
     python3 audit/vectors.py
 
@@ -7,11 +7,11 @@ program. A question is `OP N AT END BYTES`; OPERATIONS below has the letters. Fi
 01 that concern the bit layer and the operand layer, then edges, then random questions.
 """
 
-import pathlib
 import random
 import re
 
 import model
+import vectors_walk
 
 TOP = 2 ** 64 - 1
 INPUT_LIMIT = 60_000        # bytes of stdin; the probe reads 65,536
@@ -447,14 +447,10 @@ def main():
     typed_edges()
     line_edges()
     random_questions(random.Random(SEED))
-    crate = pathlib.Path(__file__).resolve().parent.parent / 'crates' / 'probe'
     questions = ''.join(line + '\n' for line in LINES)
-    answers = ''.join(reply(line) + '\n' for line in LINES)
     assert len(questions) <= INPUT_LIMIT, '%d bytes of questions' % len(questions)
-    (crate / 'stdin').write_bytes(questions.encode())
-    (crate / 'stdout').write_bytes(answers.encode())
-    asked = [line for line in LINES if line and line[0] != '#']
-    print('%d questions, %d bytes; answers %d bytes' % (len(asked), len(questions), len(answers)))
+    vectors_walk.write('probe', questions.encode(), ''.join(reply(line) + '\n' for line in LINES).encode())
+    vectors_walk.main()
 
 
 if __name__ == '__main__':

@@ -1,12 +1,11 @@
 // What a call answered, in numbers, and that as text.
-use crate::text::put_byte;
-use crate::text::put_bytes;
-use crate::text::put_decimal;
-use crate::text::put_named;
-use crate::text::put_signed;
-use crate::text::put_word;
 use bitcode::Parsed;
-use bitcode::Signature;
+use text::lines::put_signature;
+use text::put_byte;
+use text::put_bytes;
+use text::put_decimal;
+use text::put_named;
+use text::put_signed;
 
 pub enum Answer {
     // A number alone.
@@ -77,27 +76,6 @@ pub fn put_answer(out: &mut [u8], fill: usize, answer: Answer) -> usize {
         Answer::Refused(e) => put_refused(out, fill, e),
         Answer::Unknown => put_byte(out, fill, b'?'),
     }
-}
-
-// A name with its `=`, and a word in hex.
-fn put_magic(out: &mut [u8], fill: usize, name: &[u8], v: u64) -> usize {
-    let at = put_bytes(out, fill, name);
-    put_word(out, at, v)
-}
-
-// The header numbers between the two magic words.
-fn put_fields(out: &mut [u8], fill: usize, h: Signature) -> usize {
-    let a = put_named(out, fill, b" version=", h.version);
-    let b = put_named(out, a, b" offset=", h.offset);
-    let c = put_named(out, b, b" size=", h.size);
-    put_named(out, c, b" cpu=", h.cpu)
-}
-
-// The header numbers, as the dump's second line has them.
-fn put_signature(out: &mut [u8], fill: usize, h: Signature) -> usize {
-    let a = put_magic(out, fill, b"magic=", h.magic);
-    let b = put_fields(out, a, h);
-    put_magic(out, b, b" magic2=", h.magic2)
 }
 
 pub fn put_header(out: &mut [u8], fill: usize, answer: Parsed) -> usize {

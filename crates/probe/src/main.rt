@@ -14,7 +14,6 @@
 mod answer;
 mod cursor;
 mod scan;
-mod text;
 mod typed;
 
 use answer::Answer;
@@ -28,11 +27,13 @@ use libc::STDIN_FILENO;
 use libc::STDOUT_FILENO;
 use scan::Question;
 use scan::Scan;
-use scan::find;
 use scan::question_on;
+use text::front;
 use text::put_byte;
 use text::put_bytes;
 use text::put_hex;
+use text::scan::find;
+use text::scan::is_asking;
 use typed::ask_typed;
 
 // The most bytes of a question.
@@ -43,14 +44,6 @@ const ROOM: usize = 66_560;
 
 // What an answer and its line end take at most.
 const ANSWER: usize = 1_024;
-
-// The first n bytes, and all where there are fewer.
-fn part(s: &[u8], n: usize) -> &[u8] {
-    if n < s.len() {
-        return &s[0..n];
-    }
-    s
-}
 
 // The answer to a question that has numbers for an answer.
 fn ask(q: Question, s: &[u8]) -> Answer {
@@ -89,17 +82,9 @@ fn put_reply(out: &mut [u8], fill: usize, line: &[u8]) -> usize {
     let mut bytes = [0u8; MOST_BYTES];
     let at = put_bytes(out, fill, b" -> ");
     match question_on(line, &mut bytes) {
-        Scan::Asked(q) => put_asked(out, at, q, part(&bytes, q.count)),
+        Scan::Asked(q) => put_asked(out, at, q, front(&bytes, q.count)),
         Scan::Other => put_byte(out, at, b'?'),
     }
-}
-
-// Whether a line asks anything.
-fn is_asking(line: &[u8]) -> bool {
-    if line.len() == 0 {
-        return false;
-    }
-    line[0] != b'#'
 }
 
 // The line, its answer, and a line end.
@@ -119,7 +104,7 @@ fn made_room(out: &[u8], fill: usize, line: usize) -> usize {
             return fill;
         }
     }
-    io::write_all(STDOUT_FILENO, part(out, fill));
+    io::write_all(STDOUT_FILENO, front(out, fill));
     0
 }
 
@@ -133,7 +118,7 @@ fn answer_all(text: &[u8], out: &mut [u8]) {
         fill = put_line(out, fill, &text[at..e]);
         at = e + 1;
     }
-    io::write_all(STDOUT_FILENO, part(out, fill));
+    io::write_all(STDOUT_FILENO, front(out, fill));
 }
 
 fn main() {

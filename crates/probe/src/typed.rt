@@ -11,15 +11,11 @@ use bitcode::NextU64;
 use bitcode::Operands;
 use bits::Cursor;
 use bits::Read;
+use text::store::numbers_of;
+use text::store::set_number;
 
 // The numbers that the most bytes of a question make.
 const MOST_NUMBERS: usize = 32;
-
-fn set_number(store: &mut [u64], i: usize, v: u64) {
-    if i < store.len() {
-        store[i] = v;
-    }
-}
 
 // Bytes as numbers, eight a number, read by the bit layer; a rest of fewer is dropped. Tells how many numbers there are.
 fn numbers(s: &[u8], store: &mut [u64]) -> usize {
@@ -36,14 +32,6 @@ fn numbers(s: &[u8], store: &mut [u64]) -> usize {
         i += 1;
     }
     i
-}
-
-// The first n numbers, and all where there are fewer.
-fn first(store: &[u64], n: usize) -> &[u64] {
-    if n < store.len() {
-        return &store[0..n];
-    }
-    store
 }
 
 fn of_u8(answer: NextU8) -> Answer {
@@ -121,5 +109,5 @@ fn ask_operand(q: Question, store: &[u64]) -> Answer {
 pub fn ask_typed(q: Question, s: &[u8]) -> Answer {
     let mut store = [0u64; MOST_NUMBERS];
     let n = numbers(s, &mut store);
-    ask_operand(q, first(&store, n))
+    ask_operand(q, numbers_of(&store, 0, n as u64))
 }

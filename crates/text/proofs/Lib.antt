@@ -1,0 +1,6 @@
+pub mod Puts
+pub mod Spelling
+pub mod Runs
+pub mod Signs
+pub mod Parts
+pub mod Once

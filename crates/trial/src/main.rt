@@ -1,0 +1,268 @@
+// The test bench of the walk: walks what each line of standard input asks for, and shows the outcome.
+//
+// A question is a line `SKIPS EVENTS OPERANDS BYTES`: the block numbers to skip with commas between them, or `-`; how many numbers each of the two stores
+// has, 8,192 at most; the input in hex digits, 4,096 bytes at most, or `-`. The answer is that line, the dump of the walk, and `stores=zero` if the stores
+// are zero behind the last event and operand (for a refusal all over), else `stores=left`: before each walk they hold 18446744073709551615 all over. `?`
+// stands for the answer to a line that is no question. An empty line and one that begins with `#` are handed back as they stand. A line has 65,536
+// bytes at most.
+mod scan;
+
+use libc::STDIN_FILENO;
+use libc::STDOUT_FILENO;
+use scan::Question;
+use scan::Scan;
+use scan::question_on;
+use terms::EVENT_SIZE;
+use text::front;
+use text::lines::put_dump;
+use text::put_byte;
+use text::put_bytes;
+use text::scan::find;
+use text::scan::is_asking;
+use text::store::numbers_of;
+use walk::Walked;
+use walk::walk;
+ghost use Prim.Native.Nat.{_≤_};
+ghost use lib.ListN.{length};
+
+const MOST_SKIPS: usize = 32;
+
+const STORE: usize = 8_192;
+
+// The buffer goes out when so much of it is in use: what is left holds the longest line, 65,536 bytes, and the longest dump, 1,024 lines of at most 150
+// bytes and 8,192 operands of at most 21.
+const FULL: usize = 131_072;
+
+const ROOM: usize = 524_288;
+
+// How often the input is read, a buffer of 65,536 bytes each time.
+const MOST_READS: u64 = 65_536;
+
+// A number that no walk is to leave behind, all over a store.
+fn stain(store: &mut [u64]) {
+    let mut i = 0;
+    while i < store.len() {
+        store[i] = u64::MAX;
+        i += 1;
+    }
+}
+
+// Whether a store is zero from a place on.
+fn is_zero(store: &[u64], from: usize) -> bool {
+    let mut i = from;
+    while i < store.len() {
+        if store[i] != 0 {
+            return false;
+        }
+        i += 1;
+    }
+    true
+}
+
+// The lesser of two.
+fn least(a: u64, b: usize) -> usize
+    ensures { λ r. ⌜ r ≤ b ⌝ }
+{
+    if a < b as u64 {
+        return a as usize;
+    }
+    b
+}
+
+// Whether the stores are zero behind what a walk says that they hold.
+fn are_zero(w: Walked, events: &[u64], operands: &[u64]) -> bool {
+    if w.status != 0 {
+        return is_zero(events, 0) && is_zero(operands, 0);
+    }
+    let told = least(w.events, events.len() / EVENT_SIZE);
+    let held = least(w.operands, operands.len());
+    is_zero(events, told * EVENT_SIZE) && is_zero(operands, held)
+}
+
+// The answer to a question whose stores are lent.
+fn put_answer(
+    out: &mut [u8],
+    fill: usize,
+    input: &[u8],
+    skip: &[u64],
+    events: &mut [u64],
+    operands: &mut [u64],
+) -> usize {
+    stain(events);
+    stain(operands);
+    let w = walk(input, skip, events, operands);
+    let at = put_dump(out, fill, w, events, operands);
+    if are_zero(w, events, operands) {
+        return put_bytes(out, at, b"stores=zero\n");
+    }
+    put_bytes(out, at, b"stores=left\n")
+}
+
+// The answer to a question.
+fn put_asked(
+    out: &mut [u8],
+    fill: usize,
+    q: Question,
+    input: &[u8],
+    skip: &[u64],
+    events: &mut [u64],
+    operands: &mut [u64],
+) -> usize {
+    let a = q.events;
+    let b = q.operands;
+    if events.len() < a {
+        return fill;
+    }
+    if operands.len() < b {
+        return fill;
+    }
+    put_answer(
+        out,
+        fill,
+        input,
+        skip,
+        &mut events[0..a],
+        &mut operands[0..b],
+    )
+}
+
+// The answer to a line that is neither empty nor a comment.
+fn put_reply(
+    out: &mut [u8],
+    fill: usize,
+    line: &[u8],
+    events: &mut [u64],
+    operands: &mut [u64],
+) -> usize {
+    let mut list = [0u64; MOST_SKIPS];
+    let mut bytes = io::buffer();
+    match question_on(line, &mut list, &mut bytes) {
+        Scan::Other => put_bytes(out, fill, b"?\n"),
+        Scan::Asked(q) => put_asked(
+            out,
+            fill,
+            q,
+            front(&bytes, q.bytes),
+            numbers_of(&list, 0, q.skips as u64),
+            events,
+            operands,
+        ),
+    }
+}
+
+// The line, a line end, and its answer.
+fn put_line(
+    out: &mut [u8],
+    fill: usize,
+    line: &[u8],
+    events: &mut [u64],
+    operands: &mut [u64],
+) -> usize {
+    let a = put_bytes(out, fill, line);
+    let b = put_byte(out, a, b'\n');
+    if is_asking(line) {
+        return put_reply(out, b, line, events, operands);
+    }
+    b
+}
+
+// Writes out what is in use of the buffer, and tells what is in use then: nothing.
+fn flush(out: &[u8], fill: usize) -> usize {
+    io::write_all(STDOUT_FILENO, front(out, fill));
+    0
+}
+
+// Writes the buffer out if it is full enough, and tells what is in use then.
+fn made_room(out: &[u8], fill: usize) -> usize {
+    if fill < FULL {
+        return fill;
+    }
+    flush(out, fill)
+}
+
+// Answers every line of a text; tells what is in use of the buffer.
+fn answer_lines(
+    text: &[u8],
+    out: &mut [u8],
+    fill: usize,
+    events: &mut [u64],
+    operands: &mut [u64],
+) -> usize {
+    let mut used = fill;
+    let mut at = 0;
+    while at < text.len() {
+        let e = find(text, at, b'\n');
+        used = made_room(out, used);
+        used = put_line(out, used, &text[at..e], events, operands);
+        at = e + 1;
+    }
+    used
+}
+
+// The place behind the last line end of a text, and the end of the text where it has none and fills its buffer.
+fn whole_lines(text: &[u8], room: usize) -> usize
+    ensures { λ r. ⌜ r ≤ length (now (text .entry)) ⌝ }
+{
+    let mut i = text.len();
+    while 0 < i {
+        if text[i - 1] == b'\n' {
+            return i;
+        }
+        i -= 1;
+    }
+    if text.len() < room {
+        return 0;
+    }
+    text.len()
+}
+
+// Moves what lies from one place to another to the front; tells how much that is.
+fn to_front(text: &mut [u8], from: usize, end: usize) -> usize
+    requires { ⌜ (from ≤ end) × (end ≤ length (now text)) ⌝ }
+    ensures { λ r. ⌜ r ≤ end ⌝ }
+{
+    let n = end - from;
+    let mut i = 0;
+    while i < n {
+        text[i] = text[from + i];
+        i += 1;
+    }
+    n
+}
+
+// Reads behind the first n bytes; tells where what is read ends.
+fn read_behind(text: &mut [u8], n: usize) -> usize
+    requires { ⌜ n ≤ length (now text) ⌝ }
+    ensures { λ r. ⌜ (n ≤ r) × (r ≤ length (now (text .exit))) ⌝ }
+{
+    n + io::read_full(STDIN_FILENO, &mut text[n..])
+}
+
+// Answers the whole input: each time the lines that are there whole, and the last one when nothing more comes.
+fn answer_all(text: &mut [u8], out: &mut [u8], events: &mut [u64], operands: &mut [u64]) {
+    let mut fill = 0;
+    let mut kept = 0;
+    let room = text.len();
+    let mut reads = MOST_READS;
+    while 0 < reads {
+        let end = read_behind(text, kept);
+        if end == kept {
+            fill = answer_lines(&text[0..end], out, fill, events, operands);
+            flush(out, fill);
+            return;
+        }
+        let whole = whole_lines(&text[0..end], room);
+        fill = answer_lines(&text[0..whole], out, fill, events, operands);
+        kept = to_front(text, whole, end);
+        reads -= 1;
+    }
+    flush(out, fill);
+}
+
+fn main() {
+    let mut text = io::large_buffer();
+    let mut out = [0u8; ROOM];
+    let mut events = [0u64; STORE];
+    let mut operands = [0u64; STORE];
+    answer_all(&mut text, &mut out, &mut events, &mut operands);
+}
