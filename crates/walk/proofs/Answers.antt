@@ -82,7 +82,7 @@ headings = on _ (vbrs 8) (λ b q l h. on _ (requires (ltb b (2 ^ 32)) _ tt) (λ 
 
 uses : (c : Context) (st : State) (n : ℕ) {s : List ℕ} {e p : ℕ} → Answers (used c st n) s e p (λ x q. PartFits (st .left) x) Known
 unfolding used Known
-uses c st n = on _ (lookups _ (n - 4) (st .mine) tt) (λ a q l h. scalar-parts (st .left) a)
+uses c st n = on _ (lookups _ _ _ tt) (λ a q l h. scalar-parts (st .left) a)
 
 unfoldable BegunFits : State → Begun → Type 0
 BegunFits st closing = Unit {0}
