@@ -20,13 +20,13 @@ use terms::VALUE_OVERFLOW;
 use terms::VBR_OVERFLOW;
 ghost use mathlib.Core.Path.{_≡_};
 ghost use mathlib.Core.List.{_++_};
-ghost use Prim.Native.Nat.{ℕ, _+_, _*_, _<_, _≤_, min};
+ghost use Prim.Native.Nat.{_+_, _*_, _<_, _≤_, min};
 ghost use lib.ListN.{length, drop};
 ghost use Rattle.terms.specs.Limits.{max-operands, max-shared};
 ghost use Rattle.bits.specs.Told.{Gives, ofRead};
 ghost use Rattle.abbrev.specs.Abbrev.{width, kind, operand, operands as operandsOf, number-of};
 ghost use Rattle.abbrev.specs.BlockInfo.{every, letters as lettersOf, set-bid, block-name, record-name, info-record, info-numbered, info-item};
-ghost use Rattle.abbrev.specs.Tables.{row-size, local-rows, shared-slots, Outside, Tables, tables, scalar-of, define-row, nothing-held, ofWidth, ofOperand, Elements, Defines, ofChosen, ofNamed, ofLetters, InfoDoes, Kept, InfoIs, info-all, info-block, picked, row-at, ofRow};
+ghost use Rattle.abbrev.specs.Tables.{row-size, local-rows, shared-slots, Outside, tables, scalar-of, define-row, nothing-held, ofWidth, ofOperand, Elements, Defines, ofChosen, ofNamed, ofLetters, InfoDoes, Kept, InfoIs, info-all, info-block, picked, row-at, ofRow};
 
 // The slots of a row: as many as an abbreviation has operands, and one.
 pub const ROW: usize = 33;

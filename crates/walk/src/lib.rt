@@ -40,7 +40,7 @@ ghost use Rattle.terms.specs.Limits.{event-size, max-shared, max-local};
 ghost use Rattle.terms.specs.Refusals.{refusal};
 ghost use Rattle.bits.specs.Bits.{limit};
 ghost use Rattle.abbrev.specs.Abbrev.{array, blob};
-ghost use Rattle.abbrev.specs.Tables.{row-size, row-count, slot-count, Tables, tables, slots, slot, abbrev-of, Whole, Kept, Below};
+ghost use Rattle.abbrev.specs.Tables.{row-size, row-count, slot-count, Tables, tables, slots, abbrev-of, Whole, Kept, Below};
 ghost use Rattle.walk.specs.Record.{repeated, values, array-kind};
 ghost use Rattle.walk.specs.Walk.{listed as listedIn, walked};
 ghost use Rattle.walk.specs.Contracts.{entryOf, frame, marks, refusalOf, Sits, Behind, Does, openingOf, numberedOf, headedAt, Is, Runs, Recorded, plain, abbreviated, load, Loaded, blob-bytes, head-length, head-width, head-fits, Heads, Tells, Streams, Denies, Accepts, answer};
