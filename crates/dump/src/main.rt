@@ -21,7 +21,7 @@ const INPUT: usize = 65_537;
 // The numbers of each of the two stores that are lent.
 const STORE: usize = 8_192;
 
-// What holds every dump: 1,024 events have lines of at most 150 bytes without their lists, and 8,192 operands take 21 bytes each.
+// What holds every dump (proofs/Room.antt): 1,024 events have lines of at most 178 bytes without their lists, and 8,192 operands take 22 bytes each.
 const ROOM: usize = 524_288;
 
 // What is said of an input that is too long.

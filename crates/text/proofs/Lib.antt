@@ -4,3 +4,4 @@ pub mod Runs
 pub mod Signs
 pub mod Parts
 pub mod Once
+pub mod Lengths

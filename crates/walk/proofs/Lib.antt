@@ -10,3 +10,4 @@ pub mod Visits
 pub mod Items
 pub mod Outer
 pub mod Once
+pub mod Weights
