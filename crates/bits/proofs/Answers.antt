@@ -1,22 +1,19 @@
 -- What every run of a reader obeys, whatever the stream: a value that is got has K, a refusal has Q, and the place goes forward and stays within the
 -- end. The proof for a definition is its text again. Assumes nothing.
 use mathlib.Core.Path.{_≡_, refl, sym, subst}
-use mathlib.Core.Bool.{Bool, true, false, _&&_, not}
+use mathlib.Core.Bool.{Bool, true, false}
 use mathlib.Core.List.{List}
 use Prim.Native.Nat.{ℕ, zero, suc, _+_, _-_, _*_, _/_, _≤_}
 use native.Mathlib.Omega.{arith}
 use lib.ListN.{length}
-use lib.Dec.{T, leb, ltb, eqb}
+use lib.Dec.{T, leb, ltb}
 use borrow.Author.Tests.{leb-true}
-use Rattle.terms.specs.Refusals.{No, no, Refusal, refusal, buffer-overflow}
+use Rattle.terms.specs.Refusals.{No, no, Refusal, refusal, buffer-overflow, walk-number}
 use Rattle.bits.specs.Reader.{Answer, got, refused, Reader, onward, _>>=_, give, stop, require, if_then_else_, here, turns, at-place, placed}
 use Rattle.bits.specs.Bits.{limit, in-range, field-at, reach, read, align, chunks, vbr}
 use Rattle.bits.proofs.Vbr.{Ahead}
 
--- ---- the numbers that a walk can refuse with: 1 to 20, but 4 and 14, which are the small calls' own
-abbrev pub walk-number : ℕ → Bool
-walk-number n = in-range 1 20 n && not (eqb n 4) && not (eqb n 14)
-
+-- ---- a refusal by a walk's number
 unfoldable pub Known : No → Type 0
 Known (no n x y) = T (walk-number n)
 

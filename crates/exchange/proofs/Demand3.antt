@@ -1,16 +1,22 @@
--- The theorem: demand 3 holds. Whole.antt has it in pieces; here are the events, operands and blobs of those pieces. Assumes nothing.
-use mathlib.Core.Path.{_≡_, refl, ap, ap₂, _∙_, subst}
-use mathlib.Core.List.{List, [], _∷_, _++_, append-assoc}
+-- The theorem: demand 3 holds. Whole.antt has it in pieces; here are the events, operands and contents of those pieces. Assumes nothing.
+use mathlib.Core.Path.{_≡_, refl, sym, ap₂, _∙_, subst}
+use mathlib.Core.List.{List, [], _++_, append-nil}
 use Prim.Native.Nat.{ℕ, _+_, _-_, _/_, _≤_}
 use native.Mathlib.Omega.{arith}
 use lib.ListN.{length}
+use Rattle.bitcode.specs.declared.Signature.{Signature}
 use Rattle.walk.specs.Record.{no-load, list-load, blob-load, Record, a-record}
-use Rattle.walk.specs.Piece.{Head, head, Piece, the-record, definition, blockinfo, skipped, block, Pieces, done, _then_, Event, record-of, entering, skipping, leaving, events, all-events, store, all-store, blobs, all-blobs}
-use Rattle.walk.specs.Walk.{those, walk}
-use Rattle.exchange.specs.Spot.{Spot, right-here, later, inside, plug, from-of, to-of, byte-length, front, back, front-store, back-store, front-blobs, back-blobs}
-use Rattle.exchange.specs.Demand3.{Shifted, s-enter, s-skip, s-leave, s-plain, s-list, s-blob, Each, none, more, Demand-3}
-use Rattle.exchange.proofs.Shift.{move-load, move-record, move-head, LoadFine, RecordFine, HeadFine, Fine, Fines, move-piece, move-pieces, store-move, blobs-move}
-use Rattle.exchange.proofs.Swap.{Blind}
+use Rattle.walk.specs.Piece.{Head, head, Piece, the-record, definition, blockinfo, skipped, block, Pieces, done, _then_, Event, record-of, entering, skipping, leaving, events, all-events, store, all-store}
+use Rattle.walk.specs.Shown.{Blobs, bytes-at, all-shown}
+use Rattle.walk.specs.Walk.{accepted, those, walk}
+use Rattle.walk.proofs.Contents.{all-held}
+use Rattle.walk.proofs.Shows.{reads-definition, shows-met}
+use Rattle.relocation.specs.Spot.{Spot, plug, from-of, to-of, byte-length, front, back, front-store, back-store}
+use Rattle.exchange.specs.Input.{exchanged}
+use Rattle.exchange.specs.Demand3.{Shifted, s-enter, s-skip, s-leave, s-plain, s-list, s-blob, Each, none, more, Neighbours, Demand-3}
+use Rattle.relocation.proofs.Shift.{move-load, move-record, move-head, LoadFine, RecordFine, HeadFine, Fine, Fines, move-piece, move-pieces, store-move, held-move}
+use Rattle.relocation.proofs.Blocks.{Blind}
+use Rattle.relocation.proofs.Spots.{front-held, back-held, plug-events, plug-held, plug-store, shown-parts}
 use Rattle.exchange.proofs.Whole.{moved-down, moved-up, PairFine, swapped-walk}
 
 -- ---- within a group only places move
@@ -58,45 +64,44 @@ module _ (up down og oo : ℕ) where
     all-events-shifted (done end) f = none
     all-events-shifted (_then_ x xs) f = each-append (events-shifted x (f .0)) (all-events-shifted xs (f .1))
 
--- ---- what was met with two pieces at a spot: what stands before them, the two, what stands behind them
-regroup : (f a b k l x : List Event) → f ++ a ++ b ++ k ++ l ++ x ≡ f ++ a ++ b ++ (k ++ l ++ x)
-regroup f a b k l x = simp append-assoc
-
-pub plug-events : (t : Spot) (a b : Piece) → all-events (plug t a b) ≡ front t ++ events a ++ events b ++ back t
-unfolding plug all-events events front back
-plug-events (right-here xs) a b = simp append-assoc
-plug-events (later x t) a b = ap (λ y. events x ++ y) (plug-events t a b) ∙ simp append-assoc
-plug-events (inside from h t xs) a b =
-    ap (λ y. entering h ∷ (y ++ (leaving h ∷ []) ++ all-events xs)) (plug-events t a b)
-    ∙ ap (λ y. entering h ∷ y) (regroup (front t) (events a) (events b) (back t) (leaving h ∷ []) (all-events xs))
-
-pub plug-store : (t : Spot) (a b : Piece) → all-store (plug t a b) ≡ front-store t ++ store a ++ store b ++ back-store t
-unfolding plug all-store store front-store back-store
-plug-store (right-here xs) a b = simp append-assoc
-plug-store (later x t) a b = ap (λ y. store x ++ y) (plug-store t a b) ∙ simp append-assoc
-plug-store (inside from h t xs) a b = ap (λ y. y ++ all-store xs) (plug-store t a b) ∙ simp append-assoc
-
-pub plug-blobs : (t : Spot) (a b : Piece) → all-blobs (plug t a b) ≡ front-blobs t ++ blobs a ++ blobs b ++ back-blobs t
-unfolding plug all-blobs blobs front-blobs back-blobs
-plug-blobs (right-here xs) a b = simp append-assoc
-plug-blobs (later x t) a b = ap (λ y. blobs x ++ y) (plug-blobs t a b) ∙ simp append-assoc
-plug-blobs (inside from h t xs) a b = ap (λ y. y ++ all-blobs xs) (plug-blobs t a b) ∙ simp append-assoc
-
 -- ---- the skip list doesn't look at the place
 list-blind : (skips : List ℕ) → Blind (those skips)
 unfolding those
 list-blind skips from from' b = refl
 
+-- ---- contents
+-- where both walks' events show what was met, the second's show what the first's did, by whatever blobs and stores they are looked up in
+pub shows-exchanged : (t : Spot) (a b : Piece) (blobs blobs' : Blobs) (l l' : List ℕ)
+    → all-shown blobs l (all-events (plug t a b)) ≡ all-held (plug t a b)
+    → all-shown blobs' l' (all-events (plug t (moved-down a b) (moved-up a b))) ≡ all-held (plug t (moved-down a b) (moved-up a b))
+    → all-shown blobs' l' (all-events (plug t (moved-down a b) (moved-up a b)))
+    ≡ all-shown blobs l (front t) ++ all-shown blobs l (events b) ++ all-shown blobs l (events a) ++ all-shown blobs l (back t)
+unfolding moved-down moved-up
+shows-exchanged t a b blobs blobs' l l' was is =
+    let (f, ea, eb, k) = shown-parts blobs l t a b was in
+    let ha = held-move (to-of b - to-of a) 0 (length (store b)) 0 a in
+    let hb = held-move 0 (to-of a - from-of a) 0 (length (store a)) b in
+    is ∙ plug-held t (moved-down a b) (moved-up a b)
+    ∙ ap₂ (λ x y. front-held t ++ x ++ y ++ back-held t) (hb ∙ sym eb) (ha ∙ sym ea)
+    ∙ ap₂ (λ x y. x ++ all-shown blobs l (events b) ++ all-shown blobs l (events a) ++ y) (sym f) (sym k)
+
+-- ---- the exchanged input's walk
+pub new-walk : (bs skips : List ℕ) (n m : ℕ) (h : Signature) (t : Spot) (a b : Piece) → Neighbours bs skips n m h t a b
+    → (walk (exchanged bs a b) skips n m ≡ accepted h (plug t (moved-down a b) (moved-up a b))) × PairFine a b × (to-of a ≡ from-of b)
+unfolding walk
+new-walk bs skips n m h t a b z = swapped-walk (those skips) (list-blind skips) n m t a b (z .first-block) (z .second-block) (z .first-quiet)
+    (z .second-quiet) (z .aligned) bs h (z .meets) (z .clear)
+
 -- ---- DEMAND 3
 pub demand-3 : Demand-3
 unfolding byte-length moved-down moved-up PairFine walk
 demand-3 bs skips n m h t a b z =
-    let (w, (fb, fa), next) = swapped-walk (those skips) (list-blind skips) n m t a b (z .first-block) (z .second-block) (z .first-quiet)
-    (z .second-quiet) (z .aligned) bs h (z .meets) (z .clear) in
+    let (w, (fb, fa), next) = new-walk bs skips n m h t a b z in
     let sa : store (moved-up a b) ≡ store a = store-move (to-of b - to-of a) 0 (length (store b)) 0 a in
     let sb : store (moved-down a b) ≡ store b = store-move 0 (to-of a - from-of a) 0 (length (store a)) b in
-    let ba : blobs (moved-up a b) ≡ blobs a = blobs-move (to-of b - to-of a) 0 (length (store b)) 0 a in
-    let bb : blobs (moved-down a b) ≡ blobs b = blobs-move 0 (to-of a - from-of a) 0 (length (store a)) b in
+    let old = shows-met bs (those skips) n m h (plug t a b) (z .meets) (bytes-at bs) (reads-definition bs) [] in
+    let new = shows-met (exchanged bs a b) (those skips) n m h (plug t (moved-down a b) (moved-up a b)) w (bytes-at (exchanged bs a b))
+    (reads-definition (exchanged bs a b)) [] in
     record {
       new = plug t (moved-down a b) (moved-up a b);
       accepts = w;
@@ -109,6 +114,7 @@ demand-3 bs skips n m h t a b z =
       second-moves = events-shifted 0 (to-of a - from-of a) 0 (length (store a)) b fb;
       store-was = plug-store t a b;
       store-is = plug-store t (moved-down a b) (moved-up a b) ∙ ap₂ (λ x y. front-store t ++ x ++ y ++ back-store t) sb sa;
-      blobs-was = plug-blobs t a b;
-      blobs-is = plug-blobs t (moved-down a b) (moved-up a b) ∙ ap₂ (λ x y. front-blobs t ++ x ++ y ++ back-blobs t) bb ba;
+      shows = shows-exchanged t a b (bytes-at bs) (bytes-at (exchanged bs a b)) (all-store (plug t a b))
+          (all-store (plug t (moved-down a b) (moved-up a b))) (rw (append-nil (all-store (plug t a b))) at old)
+          (rw (append-nil (all-store (plug t (moved-down a b) (moved-up a b)))) at new);
     }

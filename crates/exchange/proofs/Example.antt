@@ -8,52 +8,69 @@ use Rattle.bits.specs.Bits.{bit, field, limit, field-at, reach, read, align, ch
 use Rattle.bitcode.specs.declared.ScalarOperand.the-variants.{Literal, Fixed, Vbr, Char6}
 use Rattle.bitcode.specs.declared.Signature.{Signature}
 use Rattle.bitcode.specs.Scalar.{ascii, value}
-use Rattle.bitcode.specs.Header.{word, wrapped, signature}
+use Rattle.bitcode.specs.Header.{word, wrapped, signature, stream}
 use Rattle.abbrev.specs.Abbrev.{blob, array, abbreviation, width, kind, operand, element, also, rest-of, operands, define, number-of, look-up}
 use Rattle.abbrev.specs.BlockInfo.{shared, shared-for, every, or-else, readable, chosen, info-definition, set-bid, letters, block-name, record-name, info-record, info-numbered, info-item, info-on, info}
 use Rattle.walk.specs.Record.{no-load, list-load, blob-load, a-record, stored, values, repeated, octets, bytes-if, bytes, payload-part, scalar-part, unabbreviated, array-kind, rest, load-list, record-list}
 use Rattle.walk.specs.Piece.{head, Piece, the-record, definition, blockinfo, skipped, block, done, _then_, Event, enter, skip, leave, record-event, record-of, entering, skipping, leaving, events, all-events, counted, all-counted, store, all-store, added, all-added, own, after, entered}
+use Rattle.walk.specs.Shown.{Shown, enters, leaves, holds, bytes-at, payload, shown, all-shown}
 use Rattle.walk.specs.Item.{heading, used, begun, begin, event-room, leave-room, fits, finish, at-end, opening, within, body-of, complete, item, going-on, items, nested}
 use Rattle.walk.specs.Walk.{top-level, start, top-items, Outcome, denied, accepted, outcome, walk-stream, walk-by, listed, those, walk}
-use Rattle.exchange.specs.Spot.{Spot, right-here, later, inside, plug, IsBlock, Quiet, Quiets, from-of, head-end, to-of}
+use Rattle.relocation.specs.Spot.{Spot, right-here, later, inside, plug, IsBlock, Quiet, Quiets, from-of, head-end, to-of}
 use Rattle.exchange.specs.Input.{exchange, base-of, exchanged}
-use Rattle.exchange.specs.Demand3.{Exchanged}
+use Rattle.exchange.specs.Demand3.{looked, Exchanged}
 use Rattle.exchange.proofs.Demand3.{demand-3}
 
-shown : Outcome → List Event
-shown (denied r) = []
-shown (accepted h xs) = all-events xs
+events-of : Outcome → List Event
+events-of (denied r) = []
+events-of (accepted h xs) = all-events xs
 
--- ---- no wrapper; two blocks at the top level, the first with a block in it
-flat : List ℕ
-flat =
-    0x42 ∷ 0x43 ∷ 0xC0 ∷ 0xDE ∷ 0x21 ∷ 0x0C ∷ 0x00 ∷ 0x00 ∷ 0x05 ∷ 0x00 ∷ 0x00 ∷ 0x00 ∷ 0x0B ∷ 0x84 ∷ 0xC2 ∷ 0x48 ∷
-    0xC2 ∷ 0x00 ∷ 0x00 ∷ 0x00 ∷ 0x01 ∷ 0x00 ∷ 0x00 ∷ 0x00 ∷ 0x3B ∷ 0x02 ∷ 0x53 ∷ 0x00 ∷ 0x00 ∷ 0x00 ∷ 0x00 ∷ 0x00 ∷
-    0x29 ∷ 0x10 ∷ 0x00 ∷ 0x00 ∷ 0x01 ∷ 0x00 ∷ 0x00 ∷ 0x00 ∷ 0x23 ∷ 0x04 ∷ 0x08 ∷ 0x00 ∷ 0x0F ∷ 0x41 ∷ 0x02 ∷ 0x00 ∷
+-- what the events show, looked up in the store and in the input
+seen : List ℕ → Outcome → List Shown
+seen bs (denied r) = []
+seen bs (accepted h xs) = looked bs xs (all-events xs)
+
+-- ---- no wrapper; two casings, both of block number 8: each has an abbreviation 4 of its own
+casings : List ℕ
+casings =
+    0x42 ∷ 0x43 ∷ 0xC0 ∷ 0xDE ∷ 0x21 ∷ 0x10 ∷ 0x00 ∷ 0x00 ∷ 0x06 ∷ 0x00 ∷ 0x00 ∷ 0x00 ∷ 0x32 ∷ 0x06 ∷ 0x98 ∷ 0x20 ∷
+    0x1A ∷ 0x0A ∷ 0x0C ∷ 0x0E ∷ 0x22 ∷ 0x61 ∷ 0x00 ∷ 0x00 ∷ 0x01 ∷ 0x00 ∷ 0x00 ∷ 0x00 ∷ 0x3B ∷ 0x02 ∷ 0x53 ∷ 0x00 ∷
+    0x00 ∷ 0x00 ∷ 0x00 ∷ 0x00 ∷ 0x21 ∷ 0x10 ∷ 0x00 ∷ 0x00 ∷ 0x04 ∷ 0x00 ∷ 0x00 ∷ 0x00 ∷ 0x32 ∷ 0x0A ∷ 0x90 ∷ 0x51 ∷
+    0x42 ∷ 0x03 ∷ 0x01 ∷ 0x00 ∷ 0x61 ∷ 0x62 ∷ 0x00 ∷ 0x00 ∷ 0x00 ∷ 0x00 ∷ 0x00 ∷ 0x00 ∷ 0x0F ∷ 0x43 ∷ 0xA2 ∷ 0x2C ∷
     []
 
-flat-header : Signature
-flat-header = record { magic = 0xdec04342; magic2 = 0; version = 0; offset = 4; size = 44; cpu = 0 }
+casings-header : Signature
+casings-header = record { magic = 0xdec04342; magic2 = 0; version = 0; offset = 4; size = 60; cpu = 0 }
 
--- block 8: a record of code 1 with the operands 5 and 6; block 9 with a record of code 7 with the operand 70
-flat-first : Piece
-flat-first = block 0 (head 8 3 8 20)
-    (_then_ (the-record 64 8 0 (a-record 1 (5 ∷ 6 ∷ []) no-load))
-    (_then_ (block 91 (head 9 3 20 4) (_then_ (the-record 160 9 2 (a-record 7 (70 ∷ []) no-load)) (done 187))) (done 192)))
+-- a definition, by it a record of code 1 with the array 5, 6, 7; block 9 with a record of code 7 with the operand 70
+casings-first : Piece
+casings-first = block 0 (head 8 4 8 24)
+    (_then_ (definition (abbreviation (Literal 1 ∷ []) (array (Fixed 8))))
+    (_then_ (the-record 95 8 0 (a-record 1 [] (list-load 1 (5 ∷ 6 ∷ 7 ∷ []))))
+    (_then_ (block 129 (head 9 3 24 4) (_then_ (the-record 192 9 3 (a-record 7 (70 ∷ []) no-load)) (done 219))) (done 224))))
 
--- block 10: a record of code 2 with the operand 8
-flat-second : Piece
-flat-second = block 224 (head 10 4 36 4) (_then_ (the-record 288 10 3 (a-record 2 (8 ∷ []) no-load)) (done 310))
+-- another definition, by it a record of code 2 with the operand 40 and a blob
+casings-second : Piece
+casings-second = block 256 (head 8 4 40 16)
+    (_then_ (definition (abbreviation (Literal 2 ∷ Vbr 6 ∷ []) blob))
+    (_then_ (the-record 351 8 4 (a-record 2 (40 ∷ []) (blob-load 48 (0x61 ∷ 0x62 ∷ [])))) (done 416)))
 
--- behind them: a record of code 3 with the operand 9
-flat-spot : Spot
-flat-spot = right-here (_then_ (the-record 320 4294967295 4 (a-record 3 (9 ∷ []) no-load)) (done 340))
+-- behind them: a record of code 3 with the operands 9, 10, 11
+casings-spot : Spot
+casings-spot = right-here (_then_ (the-record 448 4294967295 5 (a-record 3 (9 ∷ 10 ∷ 11 ∷ []) no-load)) (done 480))
 
-flat-swapped : List Event
-flat-swapped =
-    enter 10 4 8 4 ∷ record-event 10 2 0 1 0 0 0 ∷ leave 10 ∷
-    enter 8 3 20 20 ∷ record-event 8 1 1 2 0 0 0 ∷ enter 9 3 32 4 ∷ record-event 9 7 3 1 0 0 0 ∷ leave 9 ∷ leave 8 ∷
-    record-event 4294967295 3 4 1 0 0 0 ∷
+casings-swapped : List Event
+casings-swapped =
+    enter 8 4 8 16 ∷ record-event 8 2 0 1 3 16 2 ∷ leave 8 ∷
+    enter 8 4 32 24 ∷ record-event 8 1 1 0 1 1 3 ∷ enter 9 3 48 4 ∷ record-event 9 7 4 1 0 0 0 ∷ leave 9 ∷ leave 8 ∷
+    record-event 4294967295 3 5 3 0 0 0 ∷
+    []
+
+casings-seen : List Shown
+casings-seen =
+    enters 8 4 16 ∷ holds 8 2 (40 ∷ []) 3 (0x61 ∷ 0x62 ∷ []) ∷ leaves 8 ∷
+    enters 8 4 24 ∷ holds 8 1 [] 1 (5 ∷ 6 ∷ 7 ∷ []) ∷ enters 9 3 4 ∷ holds 9 7 (70 ∷ []) 0 [] ∷ leaves 9 ∷ leaves 8 ∷
+    holds 4294967295 3 (9 ∷ 10 ∷ 11 ∷ []) 0 [] ∷
     []
 
 -- ---- a wrapper; BLOCKINFO; then block 8, in it an entered block and a skipped one
@@ -105,38 +122,40 @@ deep-swapped =
 
 -- ---- what the walk gives, by evaluation: as they are, and exchanged
 evaluated :
-    (walk flat [] 80 5 ≡ accepted flat-header (plug flat-spot flat-first flat-second))
-    × (shown (walk (exchanged flat flat-first flat-second) [] 80 5) ≡ flat-swapped)
+    (walk casings [] 80 8 ≡ accepted casings-header (plug casings-spot casings-first casings-second))
+    × (events-of (walk (exchanged casings casings-first casings-second) [] 80 8) ≡ casings-swapped)
+    × (seen (exchanged casings casings-first casings-second) (walk (exchanged casings casings-first casings-second) [] 80 8) ≡ casings-seen)
     × (walk deep deep-skips 72 4 ≡ accepted deep-header (plug deep-spot deep-first deep-second))
-    × (shown (walk (exchanged deep deep-first deep-second) deep-skips 72 4) ≡ deep-swapped)
-unfolding flat flat-header flat-first flat-second flat-spot flat-swapped deep deep-skips deep-header deep-first deep-second deep-spot deep-swapped
-    shown plug exchanged base-of exchange from-of to-of head-end onward _>>=_ give stop require if_then_else_ here turns at-place placed
-    bit field limit field-at reach read align chunks vbr ends-at ascii value word wrapped signature
+    × (events-of (walk (exchanged deep deep-first deep-second) deep-skips 72 4) ≡ deep-swapped)
+unfolding casings casings-header casings-first casings-second casings-spot casings-swapped casings-seen
+    deep deep-skips deep-header deep-first deep-second deep-spot deep-swapped
+    events-of seen plug exchanged base-of exchange from-of to-of head-end onward _>>=_ give stop require if_then_else_ here turns at-place placed
+    bit field limit field-at reach read align chunks vbr ends-at ascii value word wrapped signature stream bytes-at payload shown all-shown
     width kind operand element also rest-of operands define number-of look-up
     shared-for every or-else readable chosen info-definition set-bid letters block-name record-name info-record info-numbered info-item info-on info
     stored values repeated octets bytes-if bytes payload-part scalar-part unabbreviated array-kind rest load-list record-list
     record-of entering skipping leaving events all-events counted all-counted store all-store added all-added own after entered
     heading used begun begin event-room leave-room fits finish at-end opening within body-of complete item going-on items nested
     top-level start top-items outcome walk-stream walk-by listed those walk
-evaluated = (refl, refl, refl, refl)
+evaluated = (refl, refl, refl, refl, refl)
 
 -- ---- demand 3 applies to both
-flat-holds : Exchanged flat [] 80 5 flat-header flat-spot flat-first flat-second
-unfolding IsBlock Quiet Quiets flat flat-first flat-second from-of word
-flat-holds = demand-3 flat [] 80 5 flat-header flat-spot flat-first flat-second (record {
+casings-hold : Exchanged casings [] 80 8 casings-header casings-spot casings-first casings-second
+unfolding IsBlock Quiet Quiets casings casings-first casings-second from-of word
+casings-hold = demand-3 casings [] 80 8 casings-header casings-spot casings-first casings-second (record {
   meets = evaluated .0;
   first-block = tt;
   second-block = tt;
   aligned = refl;
   clear = λ z. absurd (omega arith);
-  first-quiet = (tt, ((tt, tt), tt));
-  second-quiet = (tt, tt);
+  first-quiet = (tt, (tt, ((tt, tt), tt)));
+  second-quiet = (tt, (tt, tt));
 })
 
 deep-holds : Exchanged deep deep-skips 72 4 deep-header deep-spot deep-first deep-second
 unfolding IsBlock Quiet Quiets deep deep-first deep-second from-of base-of word if_then_else_
 deep-holds = demand-3 deep deep-skips 72 4 deep-header deep-spot deep-first deep-second (record {
-  meets = evaluated .2;
+  meets = evaluated .3;
   first-block = tt;
   second-block = tt;
   aligned = refl;

@@ -1,13 +1,7 @@
-pub mod Shift
-pub mod Law
-pub mod Readers
-pub mod Moves
-pub mod Apart
-pub mod Keep
 pub mod Swap
 pub mod Exchange
-pub mod Call
 pub mod Input
 pub mod Whole
 pub mod Demand3
+pub mod Calls
 pub mod Example

@@ -17,14 +17,15 @@ use Rattle.bitcode.specs.Header.{word, wrapper-magic, opened}
 use Rattle.walk.specs.Piece.{Piece, store}
 use Rattle.walk.specs.Item.{Pass}
 use Rattle.walk.specs.Walk.{top-level, start, top-items, accepted, walk-by}
-use Rattle.exchange.specs.Spot.{Spot, plug, IsBlock, Quiet, from-of, to-of}
+use Rattle.relocation.specs.Spot.{Spot, plug, IsBlock, Quiet, from-of, to-of}
 use Rattle.exchange.specs.Input.{exchange, base-of, exchanged}
-use Rattle.exchange.proofs.Shift.{Fine, move-piece}
-use Rattle.exchange.proofs.Apart.{many}
-use Rattle.exchange.proofs.Keep.{still, items-facts}
-use Rattle.exchange.proofs.Swap.{Blind, Bounds, bounds, Traded, swap-items}
+use Rattle.relocation.proofs.Shift.{Fine, move-piece}
+use Rattle.relocation.proofs.Apart.{many}
+use Rattle.relocation.proofs.Keep.{still, items-facts}
+use Rattle.relocation.proofs.Blocks.{Blind}
+use Rattle.exchange.proofs.Swap.{Bounds, bounds, Traded, swap-items}
 use Rattle.exchange.proofs.Exchange.{length-exchange, exchange-low, bits-low, bits-up, bits-down, bits-high, part-exchange}
-use Rattle.exchange.proofs.Call.{walk-apart, walk-make}
+use Rattle.walk.proofs.Call.{walk-apart, walk-make}
 use Rattle.exchange.proofs.Input.{wrapped-lies, end-of, SameHeader, lies, same-signature}
 
 -- ---- two blocks side by side, exchanged: the second goes down by the first's length, the first up by the second's

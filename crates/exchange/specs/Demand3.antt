@@ -8,9 +8,10 @@ use Prim.Native.Nat.{ℕ, _+_, _/_, _%_, _≤_, _<_}
 use lib.ListN.{length}
 use Rattle.bitcode.specs.declared.Signature.{Signature}
 use Rattle.bitcode.specs.Header.{word, wrapper-magic}
-use Rattle.walk.specs.Piece.{Piece, Pieces, Event, enter, skip, leave, record-event, events, all-events, store, all-store, blobs, all-blobs}
+use Rattle.walk.specs.Piece.{Piece, Pieces, Event, enter, skip, leave, record-event, events, all-events, store, all-store}
+use Rattle.walk.specs.Shown.{Shown, bytes-at, all-shown}
 use Rattle.walk.specs.Walk.{accepted, walk}
-use Rattle.exchange.specs.Spot.{Spot, plug, IsBlock, Quiet, from-of, byte-length, front, back, front-store, back-store, front-blobs, back-blobs}
+use Rattle.relocation.specs.Spot.{Spot, plug, IsBlock, Quiet, from-of, byte-length, front, back, front-store, back-store}
 use Rattle.exchange.specs.Input.{base-of, exchanged}
 
 -- ---- "only byte places and operand store places move": two events alike but for byte places, which go up by `up` and down by `down`, and operand
@@ -31,6 +32,10 @@ pub data Shifted (up down plus minus : ℕ) : Event → Event → Type 0 where
 pub data Each (R : Event → Event → Type 0) : List Event → List Event → Type 0 where
   none : Each R [] []
   more : {x y : Event} {xs ys : List Event} → R x y → Each R xs ys → Each R (x ∷ xs) (y ∷ ys)
+
+-- what events show, looked up in the operand store that a walk which met xs leaves, and in its input
+abbrev pub looked : List ℕ → Pieces → List Event → List Shown
+looked bs xs = all-shown (bytes-at bs) (all-store xs)
 
 -- ---- the input bs, the skip list, the sizes n and m of the event store and of the operand store; the header h; the blocks a and b at the spot t
 pub record Neighbours (bs skips : List ℕ) (n m : ℕ) (h : Signature) (t : Spot) (a b : Piece) : Type 0 where
@@ -59,11 +64,12 @@ pub record Exchanged (bs skips : List ℕ) (n m : ℕ) (h : Signature) (t : Spot
   -- the first's
   pub first-moves : Each (Shifted (byte-length b) 0 (length (store b)) 0) (events a) first
   pub second-moves : Each (Shifted 0 (byte-length a) 0 (length (store a))) (events b) second
-  -- "operand and blob contents stay": they change places with their groups
+  -- "operand and blob contents stay": in the store they change places with their groups; and every event, looked up in its own store and its own
+  -- input, shows what it showed before
   pub store-was : all-store (plug t a b) ≡ front-store t ++ store a ++ store b ++ back-store t
   pub store-is : all-store new ≡ front-store t ++ store b ++ store a ++ back-store t
-  pub blobs-was : all-blobs (plug t a b) ≡ front-blobs t ++ blobs a ++ blobs b ++ back-blobs t
-  pub blobs-is : all-blobs new ≡ front-blobs t ++ blobs b ++ blobs a ++ back-blobs t
+  pub shows : looked (exchanged bs a b) new (all-events new)
+      ≡ looked bs (plug t a b) (front t) ++ looked bs (plug t a b) (events b) ++ looked bs (plug t a b) (events a) ++ looked bs (plug t a b) (back t)
 
 -- for every input, skip list, store size and two such blocks. The proof is `demand-3` in proofs/Demand3.antt
 abbrev pub Demand-3 : Type 0

@@ -7,7 +7,7 @@ use lib.Dec.{eqb}
 use Rattle.bits.specs.Reader.{if_then_else_}
 use Rattle.bitcode.specs.Header.{word, wrapper-magic}
 use Rattle.walk.specs.Piece.{Piece}
-use Rattle.exchange.specs.Spot.{from-of, to-of}
+use Rattle.relocation.specs.Spot.{from-of, to-of}
 
 -- the bytes i to j and j to k of an input exchanged; `slice j k` are those from j on, up to k
 unfoldable pub exchange : ℕ → ℕ → ℕ → List ℕ → List ℕ

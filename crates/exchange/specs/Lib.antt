@@ -1,3 +1,3 @@
-pub mod Spot
 pub mod Input
 pub mod Demand3
+pub mod Calls

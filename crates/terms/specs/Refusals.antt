@@ -1,5 +1,7 @@
 -- The refusals (01, "Refusal numbers"). Blank details are 0. Assumes nothing.
+use mathlib.Core.Bool.{Bool, _&&_, not}
 use Prim.Native.Nat.{ℕ}
+use lib.Dec.{leb, eqb}
 
 -- what a small reader refuses with: a number, a first and a second detail
 pub data No : Type 0 where
@@ -73,3 +75,7 @@ no-operand-room = no 19 0 0
 
 abbrev pub block-number-too-large : ℕ → No
 block-number-too-large number = no 20 number 0
+
+-- ---- the numbers that a walk can refuse with: 1 to 20, but 4 and 14, which are the small calls' own
+abbrev pub walk-number : ℕ → Bool
+walk-number n = leb 1 n && leb n 20 && not (eqb n 4) && not (eqb n 14)

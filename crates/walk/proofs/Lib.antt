@@ -1,6 +1,9 @@
 pub mod Blobs
+pub mod Contents
 pub mod Answers
 pub mod Whole
+pub mod Call
+pub mod Shows
 pub mod Demands
 pub mod Turns
 pub mod Stores

@@ -5,7 +5,7 @@ use mathlib.Core.Path.{_≡_}
 use Prim.Native.Nat.{ℕ}
 use Rattle.bits.proofs.Once.{same-once}
 use Rattle.walk.specs.declared.Walked.{Walked}
-use Rattle.walk.proofs.Demands.{Meets}
+use Rattle.walk.specs.Demands.{Meets}
 
 pub walk-once : (bs skip : List ℕ) (n m : ℕ) (r r′ : Walked) (es es′ os os′ : List ℕ) → Meets bs skip n m r es os → Meets bs skip n m r′ es′ os′
     → (r ≡ r′) × (es ≡ es′) × (os ≡ os′)

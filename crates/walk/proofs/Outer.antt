@@ -29,7 +29,7 @@ use Rattle.walk.specs.declared.Frame.{Frame}
 use Rattle.walk.specs.declared.Done.{Done}
 use Rattle.walk.specs.declared.Done.the-variants as D
 use Rattle.walk.proofs.Whole.{entries-length}
-use Rattle.walk.proofs.Demands.{Meets}
+use Rattle.walk.specs.Demands.{Meets}
 
 -- ---- the skip list, from the place i on
 module _ (b : ℕ) (xs : List ℕ) (i : ℕ) where

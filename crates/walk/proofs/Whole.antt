@@ -9,15 +9,15 @@ use native.Mathlib.Nat.{sub-zero}
 use lib.Dec.{T, ltb}
 use lib.ListN.{length, length-append, replicate, length-replicate}
 use Rattle.terms.specs.Limits.{max-input, max-open, event-size}
-use Rattle.terms.specs.Refusals.{Refusal, refusal}
+use Rattle.terms.specs.Refusals.{Refusal, refusal, walk-number}
 use Rattle.bits.specs.Reader.{Answer, got, refused, if_then_else_}
-use Rattle.bits.proofs.Answers.{walk-number, KnownAt, Has, turned}
+use Rattle.bits.proofs.Answers.{KnownAt, Has, turned}
 use Rattle.bitcode.specs.declared.Signature.{Signature}
 use Rattle.bitcode.specs.Header.{Opened, unsigned, opened, signature}
 use Rattle.walk.specs.Piece.{Event, enter, skip, leave, record-event, Piece, the-record, definition, blockinfo, skipped, block, Pieces, done, _then_, leaving, events, all-events, counted, all-counted, all-store}
 use Rattle.walk.specs.Item.{Pass, nested}
 use Rattle.walk.specs.Walk.{top-level, start, top-items, Outcome, denied, accepted, outcome, walk-stream, walk-by, those, walk, entry, entries, filled, Result, no-header, result, walked}
-use Rattle.walk.proofs.Answers.{tail, Holds, item-runs, nesteds}
+use Rattle.walk.proofs.Answers.{tail, Holds, Lies, item-runs, nesteds}
 
 -- ---- `counted` counts the events
 mutual
@@ -59,9 +59,9 @@ unfoldable pub Fits : ℕ → ℕ → Outcome → Type 0
 Fits n m (accepted h xs) = (event-size * all-counted xs ≤ n) × (length (all-store xs) ≤ m)
 Fits n m (denied r) = KnownAt r
 
-outcome-fits : (n m p : ℕ) (s : List ℕ) (h : Signature) (x : Answer Refusal Pieces) → Has s (length s) p (λ xs q. Holds true (start n m) xs) KnownAt x → Fits n m (outcome h x)
+outcome-fits : (n m p : ℕ) (s : List ℕ) (h : Signature) (x : Answer Refusal Pieces) → Has s (length s) p (λ xs q. Lies s true (start n m) xs) KnownAt x → Fits n m (outcome h x)
 unfolding outcome Has Holds start tail Fits
-outcome-fits n m p s h (got xs q) (l, i, (a, b)) = (omega arith, b)
+outcome-fits n m p s h (got xs q) (l, i, ((a, b), _)) = (omega arith, b)
 outcome-fits n m p s h (refused r) k = k
 
 stream-fits : (o : Opened) (skips : Pass) (n m : ℕ) → Fits n m (walk-stream o skips n m)

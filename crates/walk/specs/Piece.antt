@@ -1,10 +1,10 @@
--- What a walk meets, as a tree of pieces; events, operands, blobs and shared abbreviations are read off it (01, "Walk"). Assumes nothing.
+-- What a walk meets, as a tree of pieces; events, operands and shared abbreviations are read off it (01, "Walk"). Assumes nothing.
 use mathlib.Core.List.{List, [], _∷_, _++_}
 use Prim.Native.Nat.{ℕ, _+_, _-_}
 use lib.ListN.{length}
 use Rattle.abbrev.specs.Abbrev.{Abbrev}
 use Rattle.abbrev.specs.BlockInfo.{Shared, shared-for}
-use Rattle.walk.specs.Record.{no-load, list-load, blob-load, Record, a-record, record-list, record-blob}
+use Rattle.walk.specs.Record.{no-load, list-load, blob-load, Record, a-record, record-list}
 
 -- a block's head: number, width, body byte, body length in bytes
 pub data Head : Type 0 where
@@ -85,19 +85,6 @@ unfoldable mutual
   pub all-store : Pieces → List ℕ
   all-store (done end) = []
   all-store (_then_ x xs) = store x ++ all-store xs
-
--- ---- the contents of the blobs
-unfoldable mutual
-  pub blobs : Piece → List (List ℕ)
-  blobs (the-record from b first r) = record-blob r
-  blobs (definition a) = []
-  blobs (blockinfo from h sh) = []
-  blobs (skipped from h) = []
-  blobs (block from h inner) = all-blobs inner
-
-  pub all-blobs : Pieces → List (List ℕ)
-  all-blobs (done end) = []
-  all-blobs (_then_ x xs) = blobs x ++ all-blobs xs
 
 -- ---- shared abbreviations that are added, also by BLOCKINFO in nested blocks
 unfoldable mutual

@@ -108,7 +108,7 @@ rest left (blobbing code vs n) = do
   align
   give (a-record code vs (blob-load (p / 8) bs))
 
--- ---- what a record leaves in the operand store, and what its blob holds
+-- ---- what a record leaves in the operand store
 unfoldable pub load-list : Load → List ℕ
 load-list no-load = []
 load-list (list-load k xs) = xs
@@ -116,11 +116,3 @@ load-list (blob-load at bs) = []
 
 unfoldable pub record-list : Record → List ℕ
 record-list (a-record code vs l) = vs ++ load-list l
-
-unfoldable pub load-blob : Load → List (List ℕ)
-load-blob no-load = []
-load-blob (list-load k xs) = []
-load-blob (blob-load at bs) = bs ∷ []
-
-unfoldable pub record-blob : Record → List (List ℕ)
-record-blob (a-record code vs l) = load-blob l

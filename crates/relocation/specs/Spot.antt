@@ -2,7 +2,7 @@
 -- (crates/walk/specs/Piece.antt); here are the place of the two in it, at any depth, and what stands around them. Assumes nothing.
 use mathlib.Core.List.{List, [], _∷_, _++_}
 use Prim.Native.Nat.{ℕ, _+_, _-_, _*_, _/_}
-use Rattle.walk.specs.Piece.{Head, head, Piece, the-record, definition, blockinfo, skipped, block, Pieces, done, _then_, Event, entering, leaving, events, all-events, store, all-store, blobs, all-blobs}
+use Rattle.walk.specs.Piece.{Head, head, Piece, the-record, definition, blockinfo, skipped, block, Pieces, done, _then_, Event, entering, leaving, events, all-events, store, all-store}
 
 -- where two pieces stand: right here, with the pieces behind them; later, behind a piece; or inside a block, with the bit where it began, its head, and the
 -- pieces behind it
@@ -60,7 +60,7 @@ to-of (block from h inner) = head-end h
 unfoldable pub byte-length : Piece → ℕ
 byte-length x = (to-of x - from-of x) / 8
 
--- ---- what stands before the two and behind them: events, operands in the order of the store, contents of blobs. The two have no part in it
+-- ---- what stands before the spot and behind it: events, and operands in the order of the store
 unfoldable pub front : Spot → List Event
 front (right-here xs) = []
 front (later x t) = events x ++ front t
@@ -80,13 +80,3 @@ unfoldable pub back-store : Spot → List ℕ
 back-store (right-here xs) = all-store xs
 back-store (later x t) = back-store t
 back-store (inside from h t xs) = back-store t ++ all-store xs
-
-unfoldable pub front-blobs : Spot → List (List ℕ)
-front-blobs (right-here xs) = []
-front-blobs (later x t) = blobs x ++ front-blobs t
-front-blobs (inside from h t xs) = front-blobs t
-
-unfoldable pub back-blobs : Spot → List (List ℕ)
-back-blobs (right-here xs) = all-blobs xs
-back-blobs (later x t) = back-blobs t
-back-blobs (inside from h t xs) = back-blobs t ++ all-blobs xs

@@ -14,9 +14,9 @@ use Rattle.bits.specs.Bits.{limit, ends-at}
 use Rattle.walk.specs.Piece.{Head, head, Piece, the-record, definition, blockinfo, skipped, block, Pieces, done, _then_, counted, all-counted, store, all-store, State, after, entered}
 use Rattle.walk.specs.Item.{Context, Begun, closing, heads, defines, records, heading, used, begun, begin, Opening, ended, defined, recorded, headed, event-room, leave-room, fits, finish, at-end, opening, Pass, Sub, body-of, complete, item, going-on, items, nested}
 use Rattle.walk.proofs.Answers.{PartFits, tail, top-ends, size-of, Takes, Inner, Holds}
-use Rattle.exchange.proofs.Shift.{mv, Wants, Began, Stands, Headed, move-record, move-part, move-head, move-begun, PartFine, HeadFine, Fitting, Front, FrontAsks, Asks, Open, Fine, Fines, Made, move-piece, move-pieces, move-opening, move-option, store-move, count-move, Like, after-like, entered-like}
-use Rattle.exchange.proofs.Law.{Window, free, same, Ends, Exact, Passes, Runs, Tells, exact-ends, recast, on, so, through, giving, giving-as, gives, stops, requires, roomy, rooms, branch, branch-on, branch-by, here-moves, places, turned, withins}
-use Rattle.exchange.proofs.Readers.{reads-at, aligns-at, aligns, vbrs, define-moves, numbers-at, lookup-moves, scalar-part-moves, unabbreviated-moves, rest-moves, info-moves}
+use Rattle.relocation.proofs.Shift.{mv, Wants, Began, Stands, Headed, move-record, move-part, move-head, move-begun, PartFine, HeadFine, Fitting, Front, FrontAsks, Asks, Open, Fine, Fines, Made, move-piece, move-pieces, move-opening, move-option, store-move, count-move, Like, after-like, entered-like}
+use Rattle.relocation.proofs.Law.{Window, free, same, Ends, Exact, Passes, Runs, Tells, exact-ends, recast, on, so, through, giving, giving-as, gives, stops, requires, roomy, rooms, branch, branch-on, branch-by, here-moves, places, turned, withins}
+use Rattle.relocation.proofs.Readers.{reads-at, aligns-at, aligns, vbrs, define-moves, numbers-at, lookup-moves, scalar-part-moves, unabbreviated-moves, rest-moves, info-moves}
 
 -- two tests with the same outcome
 leb-same : (a b c d : ℕ) → (a ≤ b → c ≤ d) → (c ≤ d → a ≤ b) → (x y : Bool) → leb a b ≡ x → leb c d ≡ y → leb c d ≡ leb a b

@@ -1,17 +1,16 @@
 -- What was met, moved: bit and byte places by up - down (given in bits), operand places by og - oo. What it takes of the rooms stays. Assumes nothing.
-use mathlib.Core.Path.{_≡_, refl, ap, ap₂}
+use mathlib.Core.Path.{_≡_, refl, sym, ap, ap₂}
 use mathlib.Core.Bool.{Bool}
-use mathlib.Core.List.{_++_}
+use mathlib.Core.List.{[], _∷_, _++_}
 use mathlib.Core.Option.{Option, none as nothing, some}
 use Prim.Native.Nat.{ℕ, _+_, _-_, _*_, _/_, _%_, _≤_, _<_}
 use native.Mathlib.Omega.{arith}
 use lib.ListN.{length}
-use Rattle.bitcode.specs.declared.ScalarOperand.{ScalarOperand}
-use Rattle.bitcode.specs.declared.ScalarOperand.the-variants.{Literal, Fixed, Vbr, Char6}
 use Rattle.abbrev.specs.BlockInfo.{shared-for}
-use Rattle.walk.specs.Record.{Load, no-load, list-load, blob-load, Record, a-record, Part, whole, listing, blobbing, array-kind, load-list, record-list, load-blob, record-blob}
-use Rattle.walk.specs.Piece.{Head, head, Piece, the-record, definition, blockinfo, skipped, block, Pieces, done, _then_, counted, all-counted, store, all-store, blobs, all-blobs, added, all-added, own, State, after, entered}
+use Rattle.walk.specs.Record.{Load, no-load, list-load, blob-load, Record, a-record, Part, whole, listing, blobbing, load-list, record-list}
+use Rattle.walk.specs.Piece.{Head, head, Piece, the-record, definition, blockinfo, skipped, block, Pieces, done, _then_, counted, all-counted, store, all-store, added, all-added, own, State, after, entered}
 use Rattle.walk.specs.Item.{Begun, closing, heads, defines, records, Opening, ended, defined, recorded, headed}
+use Rattle.walk.proofs.Contents.{record-held, enter-held, skip-held, leave-held, held, all-held}
 use Rattle.walk.proofs.Answers.{PartFits, tail, Takes}
 
 -- ---- what an item takes of the rooms; the end wants room for a leave event
@@ -35,14 +34,6 @@ Stands (head b w at n) q = (q ≡ 8 * at) × (q % 32 ≡ 0) × (n % 4 ≡ 0)
 -- and whose body ends at the bit `lim` at the latest
 unfoldable pub Headed : ℕ → Head → ℕ → Type 0
 Headed lim (head b w at n) q = (q ≡ 8 * at) × (q % 32 ≡ 0) × (q + 8 * n ≤ lim) × (n % 4 ≡ 0)
-
--- an array's kind is not a blob's
-pub kind-small : (k : ScalarOperand) → (0 < array-kind k) × (array-kind k < 3)
-unfolding array-kind
-kind-small (Literal v) = omega arith
-kind-small (Fixed w) = omega arith
-kind-small (Vbr w) = omega arith
-kind-small Char6 = omega arith
 
 -- ---- moved
 module _ (up down : ℕ) where
@@ -165,7 +156,7 @@ module _ (up down : ℕ) where
     move-option nothing = nothing
     move-option (some x) = some (move-piece x)
 
-    -- ---- moving keeps the stored operands, the blobs, what is added, what is defined and the number of events
+    -- ---- moving keeps the stored operands, what is held, what is added, what is defined and the number of events
     load-list-move : (l : Load) → load-list (move-load l) ≡ load-list l
     unfolding load-list move-load
     load-list-move no-load = refl
@@ -190,29 +181,30 @@ module _ (up down : ℕ) where
       all-store-move (done end) = refl
       all-store-move (_then_ x xs) = ap₂ (λ a b. a ++ b) (store-move x) (all-store-move xs)
 
-    load-blob-move : (l : Load) → load-blob (move-load l) ≡ load-blob l
-    unfolding load-blob move-load
-    load-blob-move no-load = refl
-    load-blob-move (list-load k xs) = refl
-    load-blob-move (blob-load at bs) = refl
+    record-held-move : (b : ℕ) (r : Record) → record-held b (move-record r) ≡ record-held b r
+    unfolding record-held move-record move-load
+    record-held-move b (a-record code vs no-load) = refl
+    record-held-move b (a-record code vs (list-load k xs)) = refl
+    record-held-move b (a-record code vs (blob-load at bs)) = refl
 
-    record-blob-move : (r : Record) → record-blob (move-record r) ≡ record-blob r
-    unfolding record-blob move-record
-    record-blob-move (a-record code vs l) = load-blob-move l
+    head-held-move : (h : Head) → (enter-held (move-head h) ≡ enter-held h) × (skip-held (move-head h) ≡ skip-held h) × (leave-held (move-head h) ≡ leave-held h)
+    unfolding enter-held skip-held leave-held move-head
+    head-held-move (head b w at n) = (refl, refl, refl)
 
     mutual
-      unfolding blobs all-blobs move-piece move-pieces
+      unfolding held all-held move-piece move-pieces
 
-      pub blobs-move : (x : Piece) → blobs (move-piece x) ≡ blobs x
-      blobs-move (the-record from b first r) = record-blob-move r
-      blobs-move (definition a) = refl
-      blobs-move (blockinfo from h sh) = refl
-      blobs-move (skipped from h) = refl
-      blobs-move (block from h inner) = all-blobs-move inner
+      pub held-move : (x : Piece) → held (move-piece x) ≡ held x
+      held-move (the-record from b first r) = ap (λ y. y ∷ []) (record-held-move b r)
+      held-move (definition a) = refl
+      held-move (blockinfo from h sh) = refl
+      held-move (skipped from h) = ap (λ y. y ∷ []) (head-held-move h .1)
+      held-move (block from h inner) = ap₂ (λ x y. x ∷ y) (head-held-move h .0)
+          (ap₂ (λ x y. x ++ (y ∷ [])) (all-held-move inner) (head-held-move h .2))
 
-      pub all-blobs-move : (xs : Pieces) → all-blobs (move-pieces xs) ≡ all-blobs xs
-      all-blobs-move (done end) = refl
-      all-blobs-move (_then_ x xs) = ap₂ (λ a b. a ++ b) (blobs-move x) (all-blobs-move xs)
+      pub all-held-move : (xs : Pieces) → all-held (move-pieces xs) ≡ all-held xs
+      all-held-move (done end) = refl
+      all-held-move (_then_ x xs) = ap₂ (λ a b. a ++ b) (held-move x) (all-held-move xs)
 
     mutual
       unfolding added all-added move-piece move-pieces
@@ -259,6 +251,9 @@ pub record Like (og oo : ℕ) (st st' : State) : Type 0 where
 
 pub like-self : (st : State) → Like 0 0 st st
 like-self st = record { l-shareds = refl; l-mine = refl; l-locals = refl; l-fill = refl }
+
+pub like-back : {og oo : ℕ} {st st' : State} → Like og oo st st' → Like oo og st' st
+like-back l = record { l-shareds = sym (l .l-shareds); l-mine = sym (l .l-mine); l-locals = sym (l .l-locals); l-fill = sym (l .l-fill) }
 
 pub after-like : (up down : ℕ) {og oo : ℕ} {st st' : State} (x : Piece) → Like og oo st st'
     → Like og oo (after x st) (after (move-piece up down og oo x) st')

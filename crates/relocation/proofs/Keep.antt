@@ -14,10 +14,10 @@ use Rattle.walk.specs.Record.{Load, no-load, list-load, blob-load, Record, a-re
 use Rattle.walk.specs.Piece.{Head, head, Piece, the-record, definition, blockinfo, skipped, block, Pieces, done, _then_, State}
 use Rattle.walk.specs.Item.{Context, Opening, headed, opening, Pass, body-of, nested}
 use Rattle.walk.proofs.Answers.{size-of, Takes, Holds, item-runs, nesteds}
-use Rattle.exchange.proofs.Shift.{Wants, Began, Headed, move-load, move-record, move-head, Fitting, Asks, Open, Fines, Made, move-piece, move-pieces, move-opening, move-option, Like, like-self}
-use Rattle.exchange.proofs.Law.{Window, Exact, Passes, Gets, exact-ends, taken}
-use Rattle.exchange.proofs.Moves.{exact-out, opening-moves, body-moves, item-moves, items-move, nested-moves}
-use Rattle.exchange.proofs.Apart.{one, many}
+use Rattle.relocation.proofs.Shift.{Wants, Began, Headed, move-load, move-record, move-head, Fitting, Asks, Open, Fines, Made, move-piece, move-pieces, move-opening, move-option, Like, like-self}
+use Rattle.relocation.proofs.Law.{Window, Exact, Passes, Gets, exact-ends, taken}
+use Rattle.relocation.proofs.Moves.{exact-out, opening-moves, body-moves, item-moves, items-move, nested-moves}
+use Rattle.relocation.proofs.Apart.{one, many}
 
 -- ---- moving by nothing is nothing
 pub zero-mv : (p : ℕ) → p + 0 - 0 ≡ p
@@ -139,8 +139,11 @@ module _ {s s' : List ℕ} {lo hi : ℕ} (win : Window s s' lo hi 0 0) (skips : 
       v .runs g f ∙ ap (λ o. got o q) (zero-headed from hd)
 
 -- ---- one stream
+pub alone-to : (s : List ℕ) (hi : ℕ) → Window s s 0 hi 0 0
+alone-to s hi = still 0 hi (λ x h g. refl) refl
+
 pub alone : (s : List ℕ) → Window s s 0 0 0 0
-alone s = still 0 0 (λ x h g. refl) refl
+alone s = alone-to s 0
 
 -- an item that was met at p .. q
 pub record Met (s : List ℕ) (e : ℕ) (st : State) (p q : ℕ) (x : Piece) : Type 0 where
@@ -163,7 +166,9 @@ module _ (skips : Pass) (s : List ℕ) (d : ℕ) (c : Context) (st : State) (e p
       record { rises = w₁; before = w₂; within-end = v .stays (omega arith); takes = w₃; began = w₄ }
 
   pub items-facts : (k q : ℕ) (xs : Pieces) → many skips d k c st s e p ≡ got xs q → (p ≤ q) × (p ≤ limit s e → q ≤ limit s e) × Holds (c .top) st xs
-  items-facts k q xs z = when-got (item-runs k (nested d skips) skips c st s e p (nesteds d skips)) z
+  items-facts k q xs z =
+      let (l, i, (f, _)) = when-got (item-runs k (nested d skips) skips c st s e p (nesteds d skips)) z in
+      (l, i, f)
 
   pub opening-facts : (q from : ℕ) (h : Head) → opening c st s e p ≡ got (headed from h) q → (from < q) × Headed (limit s e) h q × (from ≡ p)
   unfolding Open

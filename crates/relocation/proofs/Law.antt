@@ -12,7 +12,7 @@ use Rattle.terms.specs.Refusals.{No, no}
 use Rattle.bits.specs.Reader.{Reader, Answer, got, refused, onward, require, if_then_else_, here, turns, at-place}
 use Rattle.bits.specs.Bits.{bit, limit}
 use Rattle.walk.specs.Item.{Pass, within}
-use Rattle.exchange.proofs.Shift.{mv}
+use Rattle.relocation.proofs.Shift.{mv}
 
 pub record Window (s s' : List ℕ) (lo hi up down : ℕ) : Type 0 where
   pub agree : (i : ℕ) → lo ≤ i → i < hi → bit s i ≡ bit s' (i + up - down)

@@ -17,9 +17,9 @@ use Rattle.bitcode.specs.Scalar.{value}
 use Rattle.abbrev.specs.Abbrev.{Payload, none, blob, array, Abbrev, abbreviation, Operand, scalar, is-array, is-blob, width, kind, operand, element, rest-of, operands, define, number-of, look-up}
 use Rattle.abbrev.specs.BlockInfo.{Shared, Hides, every, or-else, readable, chosen, info-definition, set-bid, letters, block-name, record-name, info-record, InfoItem, info-end, info-adds, info-now, info-numbered, info-item, info-on, info}
 use Rattle.walk.specs.Record.{blob-load, a-record, stored, values, repeated, octets, bytes-if, bytes, Part, whole, listing, blobbing, payload-part, scalar-part, unabbreviated, rest, load-list, record-list}
-use Rattle.walk.proofs.Answers.{PartFits}
-use Rattle.exchange.proofs.Shift.{mv, kind-small, move-load, move-record, move-part, LoadFine, RecordFine, PartFine}
-use Rattle.exchange.proofs.Law.{Window, any, free, same, Ends, Moves, Easy, Runs, Tells, Keeps, recast, knows, easy, on, so, through, giving, giving-as, gives, stops, requires, rooms, bounded, branch, here-moves, places, turned}
+use Rattle.walk.proofs.Answers.{PartFits, array-kinds}
+use Rattle.relocation.proofs.Shift.{mv, move-load, move-record, move-part, LoadFine, RecordFine, PartFine}
+use Rattle.relocation.proofs.Law.{Window, any, free, same, Ends, Moves, Easy, Runs, Tells, Keeps, recast, knows, easy, on, so, through, giving, giving-as, gives, stops, requires, rooms, bounded, branch, here-moves, places, turned}
 
 -- ---- what stands in the window
 module _ {s s' : List ℕ} {lo hi up down : ℕ} (win : Window s s' lo hi up down) where
@@ -207,7 +207,7 @@ module _ {s s' : List ℕ} {lo hi up down : ℕ} {win : Window s s' lo hi up dow
   rest-moves t h left left' (whole r) z f = giving r (z, f) (λ v. v)
   rest-moves t h left left' (listing code vs k n) z f =
       on _ (repeated-moves t (left - length vs) (left' - length vs) n k h) (λ xs q g z₁.
-      giving _ (omega (arith, length-append vs xs), kind-small k) (λ v. omega (arith, length-append vs xs)))
+      giving _ (omega (arith, length-append vs xs), array-kinds k) (λ v. omega (arith, length-append vs xs)))
   rest-moves t h left left' (blobbing code vs n) z f =
       so _ (here-moves t) (λ at q g z₁.
       so _ (bytes-move t (omega arith) n) (λ bs q₁ g₁ _.

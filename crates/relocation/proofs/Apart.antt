@@ -14,7 +14,7 @@ use Rattle.abbrev.specs.BlockInfo.{Shared}
 use Rattle.walk.specs.Piece.{Head, head, Piece, the-record, definition, blockinfo, skipped, block, Pieces, _then_, State, after, entered}
 use Rattle.walk.specs.Item.{Context, Opening, ended, defined, recorded, headed, event-room, opening, within, Pass, Sub, body-of, complete, item, going-on, items, nested}
 use Rattle.walk.proofs.Turns.{items-step}
-use Rattle.exchange.specs.Spot.{IsBlock}
+use Rattle.relocation.specs.Spot.{IsBlock}
 
 -- ---- a block is neither BLOCKINFO nor skipped
 info-apart : {from from' : ℕ} {h h' : Head} {xs : Pieces} {sh : List Shared} → blockinfo from' h' sh ≡ block from h xs → ⊥

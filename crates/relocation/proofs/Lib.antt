@@ -1,0 +1,9 @@
+pub mod Shift
+pub mod Law
+pub mod Readers
+pub mod Moves
+pub mod Apart
+pub mod Keep
+pub mod Blocks
+pub mod Spots
+pub mod Laws
