@@ -193,6 +193,7 @@ class Walk:
         self.open = []         # the numbers of the open blocks
         self.item = 0          # Place: "where the innermost item being read began"
         self.outside = set()
+        self.blocks = []       # not a rule: the blocks that were met, each behind those inside it
 
     def note(self, condition, case):  # not a rule: marks the inputs of "Where we leave the Rust"
         self.outside |= {case} if condition else set()
@@ -305,6 +306,7 @@ class Walk:
 
     # ------------------------------------------- Walk: blocks
     def sub_block(self, r):
+        first, met = self.item, len(self.blocks)
         block = r.vbr(8)  # "block number vbr8 (>= 2^32: 20), width vbr4, align, length in words (32 bits)"
         self.note(block >= 2 ** 32, 'block number 2^32 or more')
         refuse_if(block >= 2 ** 32, 20, block)
@@ -324,6 +326,9 @@ class Walk:
             self.open.append(block)
             self.block(Reader(self, body), block, width, False)
             self.open.pop()
+        kind = 'blockinfo' if block == 0 else 'skipped' if block in self.skips else 'entered'
+        loud = block == 0 or any(inner['loud'] for inner in self.blocks[met:])  # BLOCKINFO read as it or inside it
+        self.blocks.append({'first': first, 'end': 8 * body.end, 'parent': r, 'depth': len(self.open), 'kind': kind, 'loud': loud})
 
     def block(self, r, block, width, top):
         # Abbreviations: "first the shared ones for this block number as they stood when the block was entered"
@@ -359,7 +364,8 @@ class Walk:
 
 def walk(data, skips, events_size, operands_size):
     result = {'status': 0, 'place': 0, 'first': 0, 'second': 0, 'header': (0,) * 6, 'events': [], 'operands': [],
-              'event_store': [0] * events_size, 'operand_store': [0] * operands_size, 'outside': [], 'before': []}
+              'event_store': [0] * events_size, 'operand_store': [0] * operands_size, 'outside': [], 'before': [],
+              'blocks': []}
     # Refusal numbers: "Order: 15, then 1, then the walk in stream order."
     if len(data) > INPUT_LIMIT or parse(data) == 1:
         result['status'] = 15 if len(data) > INPUT_LIMIT else 1
@@ -373,10 +379,10 @@ def walk(data, skips, events_size, operands_size):
         result.update(status=refusal.number, place=place, first=refusal.first, second=refusal.second)
     else:  # "An accepted walk leaves zero behind the last event and operand."
         numbers = [number for event in state.events for number in event]
-        result.update(header=header, events=state.events, operands=state.operands)
+        result.update(header=header, events=state.events, operands=state.operands, blocks=state.blocks)
         result['event_store'][:len(numbers)] = numbers
         result['operand_store'][:len(state.operands)] = state.operands
-    # Not results of 01: the listed cases that were met, and what was found before a refusal.
+    # Not results of 01: the listed cases that were met, what was found before a refusal, the blocks of an accepted walk.
     result['outside'], result['before'] = sorted(state.outside), [state.events, state.operands]
     return result
 

@@ -3,22 +3,29 @@
     python3 audit/vectors_walk.py       (vectors.py runs it too)
 
 The answers come from audit/model.py alone, and never from a program. A question is a line
-`SKIPS EVENTS OPERANDS BYTES`; crates/trial/src/main.rt says what each word is. First the samples of 01,
-then each refusal, each limit from both sides, what one block may learn of another, and random logs.
+`SKIPS EVENTS OPERANDS BYTES`, or `exchange I J K` and the same; crates/trial/src/main.rt says what each word
+is. First the samples of 01, then each refusal, each limit from both sides, what one block may learn of another,
+and random logs; then exchanges of two blocks (exchanges.py): by hand, random, and where a hypothesis fails.
 """
 
+import itertools
 import pathlib
+import random
 import re
 
+import exchanges
 import generate
 import model
+from items import MAGIC, LITERAL, FIXED, VBR, ARRAY, CHAR6, BLOB, blob, block, define, fields, info, log, marked, nested, number, operand, pad, \
+    record, several, shared, stream, use, vbr, wrapper
 
-MAGIC = bytes.fromhex('4243C0DE')
 TOP = 2 ** 64 - 1
 EVENTS, OPERANDS = 640, 192     # the stores that a question lends where it says nothing else
 MOST_SKIPS, MOST_STORE, MOST_BYTES = 32, 8_192, 4_096
 RANDOM_LOGS = 400
 SEED = 20_240_102
+SOUND_PAIRS, UNSOUND_PAIRS, ANY_PLACES = 250, 60, 60
+PAIR_SEED = 20_240_103
 
 LINES = []
 
@@ -27,14 +34,23 @@ def note(text):
     LINES.append('# ' + text)
 
 
+def line_of(data, skips, events, operands):
+    return '%s %d %d %s' % (','.join(map(str, skips)) or '-', events, operands, data.hex() or '-')
+
+
+def exchange_line(i, j, k, *lent):
+    return 'exchange %d %d %d ' % (i, j, k) + line_of(*lent)
+
+
 def ask(data, skips=(), events=EVENTS, operands=OPERANDS):
-    LINES.append('%s %d %d %s' % (','.join(map(str, skips)) or '-', events, operands, data.hex() or '-'))
+    LINES.append(line_of(data, skips, events, operands))
 
 
 # ---------------------------------------------------------------- answers, by the model
 
 NUMBERS = r'(-|[0-9]+(?:,[0-9]+)*)'
 QUESTION = re.compile(NUMBERS + r' ([0-9]+) ([0-9]+) (-|(?:[0-9A-Fa-f]{2})+)', re.ASCII)
+EXCHANGE = re.compile(r'exchange ([0-9]+) ([0-9]+) ([0-9]+) (.*)', re.ASCII)
 
 
 def question(line):
@@ -50,134 +66,31 @@ def question(line):
     return data, skips, int(match[2]), int(match[3])
 
 
+def exchange_question(match):
+    """What a line that begins like an exchange asks, or None."""
+    i, j, k = [int(match[n]) for n in (1, 2, 3)]
+    asked = question(match[4])
+    return (i, j, k, *asked) if asked and i <= j <= k <= len(asked[0]) else None
+
+
+def exchange_reply(line, match):
+    asked = exchange_question(match)
+    return line + '\n' + (exchanges.verdict(*asked) if asked else '?') + '\n'
+
+
 def reply(line):
     """The lines of stdout for a line of stdin."""
     if line == '' or line[0] == '#':
         return line + '\n'
+    match = EXCHANGE.fullmatch(line)
+    if match:
+        return exchange_reply(line, match)
     asked = question(line)
     if asked is None:
         return line + '\n?\n'
     w = model.walk(*asked)
     behind = w['event_store'][8 * len(w['events']):] + w['operand_store'][len(w['operands']):]
     return line + '\n' + model.show(w) + 'stores=%s\n' % ('left' if any(behind) else 'zero')
-
-
-# ---------------------------------------------------------------- logs: an item is a function of the bits so far and the width
-
-def number(v):
-    """A bare abbreviation number, with nothing behind it."""
-    return lambda b, width: b.put(v, width)
-
-
-def fields(*pairs):
-    """Fields as they stand: (value, width)."""
-    def item(b, width):
-        for value, size in pairs:
-            b.put(value, size)
-    return item
-
-
-def vbr(value, size, chunks=1):
-    return lambda b, width: b.vbr(value, size, chunks)
-
-
-def several(*items):
-    def item(b, width):
-        for each in items:
-            each(b, width)
-    return item
-
-
-def pad(bit=0):
-    return lambda b, width: b.pad(bit)
-
-
-def record(code, *values, count=None):
-    return several(number(3), vbr(code, 6), vbr(len(values) if count is None else count, 6), *[vbr(v, 6) for v in values])
-
-
-LITERAL, FIXED, VBR, ARRAY, CHAR6, BLOB = 'literal', 1, 2, 3, 4, 5
-
-
-def operand(kind, value=None):
-    if kind == LITERAL:
-        return several(fields((1, 1)), vbr(value, 8))
-    front = fields((0, 1), (kind, 3))
-    return front if value is None else several(front, vbr(value, 5))
-
-
-def define(*operands, count=None):
-    return several(number(2), vbr(len(operands) if count is None else count, 5), *[operand(*each) for each in operands])
-
-
-def marked(value):
-    """A definition whose use tells which one was found: its code is a literal."""
-    return define((LITERAL, value))
-
-
-def use(abbreviation, *items):
-    return several(number(abbreviation), *items)
-
-
-def blob(data, length=None):
-    return several(vbr(len(data) if length is None else length, 6), pad(), fields(*[(byte, 8) for byte in data]), pad())
-
-
-def block(block_number, width, *items, end=True, words=None, junk=b''):
-    """A block: its END_BLOCK unless `end` is false, `junk` behind it, and its length unless `words` says another."""
-    def item(b, outer):
-        body = generate.Bits()
-        for each in items:
-            each(body, width)
-        if end:
-            body.put(0, width)
-        body.pad()
-        for byte in junk:
-            body.put(byte, 8)
-        body.pad()
-        b.put(1, outer)
-        b.vbr(block_number, 8)
-        b.vbr(width, 4)
-        b.pad()
-        b.put(len(body.bits) // 32 if words is None else words, 32)
-        b.bits += body.bits
-    return item
-
-
-def info(*items, width=3, **how):
-    return block(0, width, *items, **how)
-
-
-def shared(block_number, *definitions):
-    return info(record(1, block_number), *definitions)
-
-
-def stream(*items):
-    b = generate.Bits()
-    for each in items:
-        each(b, 2)
-    return b
-
-
-def log(*items, whole=True):
-    """The magic and a stream, filled up to 32 bits unless `whole` is false."""
-    b = stream(*items)
-    if whole:
-        b.pad()
-    return MAGIC + b.bytes()
-
-
-def nested(depth, *innermost, width=2, first=8):
-    """So many blocks, one in the other."""
-    item = block(first + depth - 1, width, *innermost)
-    for level in range(depth - 2, -1, -1):
-        item = block(first + level, width, item)
-    return item
-
-
-def wrapper(offset, size, data, version=1, cpu=7):
-    head = b''.join(v.to_bytes(4, 'little') for v in (0x0B17C0DE, version, offset, size, cpu))
-    return head + data
 
 
 # ---------------------------------------------------------------- 01, "Bench samples"
@@ -606,6 +519,56 @@ def random_logs():
         ask(data, skips, events, operands)
 
 
+# ---------------------------------------------------------------- exchanges of two blocks
+
+def ask_exchange(wanted, *asked):
+    """An exchange that leaves all as demand 3 says, or one that shows why a hypothesis is there."""
+    LINES.append(exchange_line(*asked))
+    assert wanted == exchanges.verdict(*asked).startswith('exchanged '), LINES[-1]
+
+
+def exchanges_by_hand():
+    for kind, group in (('exchange, all hypotheses true: ', exchanges.edges), ('exchange, all hypotheses true: ', exchanges.payloads),
+                        ('exchange, a hypothesis fails: ', exchanges.counterexamples)):
+        for comment, failing, asked in group():
+            note(kind + comment)
+            ask_exchange(not failing, *asked)
+    for comment, asked in exchanges.others():
+        note('exchange, not what the demand speaks of: ' + comment)
+        LINES.append(exchange_line(*asked))
+
+
+def exchange_lines():
+    note('exchange: lines that are no question: places out of order, past the end; words missing, too many, not numbers, past 64 bits')
+    two = log(block(8, 0, end=False), block(9, 0, end=False))
+    good = exchange_line(4, 12, 20, two, [8, 9], 16, 0)
+    words, rest = good.split(' '), line_of(two, [8, 9], 16, 0)
+    LINES.extend(['exchange 5 4 6 - 8 8 00', 'exchange 12 4 20 ' + rest, 'exchange 4 20 12 ' + rest, 'exchange 4 12 21 ' + rest, 'exchange 0 0 1 - 8 8 -'])
+    LINES.extend(['exchange', 'exchange ', 'exchange 4', 'exchange 4 12 20', 'exchange 4 12 20 '])
+    LINES.extend(' '.join(words[:n] + words[n + 1:]) for n in range(8))
+    for n in (1, 2, 3):
+        for wrong in ('', 'x', '-', '-4', '4x', '18446744073709551615', '18446744073709551616', str(2 ** 64 + int(words[n]))):
+            LINES.append(' '.join(words[:n] + [wrong] + words[n + 1:]))
+    LINES.extend([' ' + good, good + ' ', good + ' 00', good[:-1], good[:-1] + 'g', good.replace(' ', '  ', 1), 'exchanges' + good[8:], 'Exchange' + good[8:],
+                  'exchange\t' + good[9:], good.replace('8,9', '8,'), good.replace(' 16 ', ' 8193 '), 'exchange 0 0 0 - 8 8 ' + '42' * 4_097])
+    note('exchange: lines that are: zeros before a number, upper case digits, an empty input, 4,096 bytes')
+    LINES.extend([good, 'exchange 004 0012 00020 ' + rest, 'exchange 4 12 20 ' + rest.upper(), 'exchange 0 0 0 - 8 8 -', 'exchange 00 00 00 - 0 0 -',
+                  exchange_line(4, 12, 20, two.ljust(4_096, b'\0'), [8, 9], 16, 0)])
+
+
+def random_exchanges():
+    rng = random.Random(PAIR_SEED)
+    note('exchange: %d random pairs, all hypotheses true' % SOUND_PAIRS)
+    for _, asked in itertools.islice(exchanges.sound(rng), SOUND_PAIRS):
+        ask_exchange(True, *asked)
+    note('exchange: %d random pairs; in turn they are off a 32-bit boundary, touch a wrapper, have BLOCKINFO in them' % UNSOUND_PAIRS)
+    for _, asked in itertools.islice(exchanges.unsound(rng), UNSOUND_PAIRS):
+        LINES.append(exchange_line(*asked))
+    note('exchange: any three places of %d random logs' % ANY_PLACES)
+    for asked in itertools.islice(exchanges.anywhere(rng), ANY_PLACES):
+        LINES.append(exchange_line(*asked))
+
+
 # ---------------------------------------------------------------- the dump's log
 
 def shift_log():
@@ -632,7 +595,7 @@ def write(name, questions, answers):
 
 def main():
     for group in (samples, headers, cut_short, overflow, definitions, blocks, operand_count, shared_room, local_room, event_room, operand_room, infos,
-                  histories, skipping, lines, random_logs):
+                  histories, skipping, lines, random_logs, exchanges_by_hand, exchange_lines, random_exchanges):
         group()
     write('trial', ''.join(line + '\n' for line in LINES).encode(), ''.join(map(reply, LINES)).encode())
     write('dump', shift_log(), model.dump(shift_log()).encode())

@@ -2,14 +2,35 @@
 //
 // A question is a line `SKIPS EVENTS OPERANDS BYTES`: the block numbers to skip with commas between them, or `-`; how many numbers each of the two stores
 // has, 8,192 at most; the input in hex digits, 4,096 bytes at most, or `-`. The answer is that line, the dump of the walk, and `stores=zero` if the stores
-// are zero behind the last event and operand (for a refusal all over), else `stores=left`: before each walk they hold 18446744073709551615 all over. `?`
-// stands for the answer to a line that is no question. An empty line and one that begins with `#` are handed back as they stand. A line has 65,536
+// are zero behind the last event and operand (for a refusal all over), else `stores=left`: before each walk they hold 18446744073709551615 all over.
+//
+// The other question is a line `exchange I J K SKIPS EVENTS OPERANDS BYTES`: I, J and K are the bytes of the input where a block begins, where it ends
+// and the next one begins, and where that one ends. The input is walked as it stands and with the two blocks' bytes exchanged, with the same numbers to
+// skip and stores of the same sizes, and what the walks leave in the stores is held against demand 3. The answer is that line, and one of these:
+//
+//   was STATUS                                       the input is refused; STATUS is the first line of its dump
+//   is STATUS                                        the exchanged input is refused
+//   apart                                            other events stand between those of the two blocks
+//   differs event=N                                  the event N of the exchanged input is not as demanded, or there are too few or too many
+//   differs operands                                 the events are as demanded, and the walks tell different numbers of operands
+//   differs header                                   all that is as demanded, and the header numbers differ
+//   exchanged before=B first=F second=S behind=E     all is as demanded; how many events stand before the two blocks, in each of them, and behind
+//
+// `?` stands for the answer to a line that is no question. An empty line and one that begins with `#` are handed back as they stand. A line has 65,536
 // bytes at most.
+mod compare;
+mod exchanged;
+mod group;
+mod judge;
 mod scan;
 
+use exchanged::is_exchange;
+use judge::put_exchange;
 use libc::STDIN_FILENO;
 use libc::STDOUT_FILENO;
+use scan::MOST_SKIPS;
 use scan::Question;
+use scan::STORE;
 use scan::Scan;
 use scan::question_on;
 use terms::EVENT_SIZE;
@@ -24,10 +45,6 @@ use walk::Walked;
 use walk::walk;
 ghost use Prim.Native.Nat.{_≤_};
 ghost use lib.ListN.{length};
-
-const MOST_SKIPS: usize = 32;
-
-const STORE: usize = 8_192;
 
 // The buffer goes out when so much of it is in use: what is left holds the longest line, 65,536 bytes, and the longest dump, 1,024 lines of at most 150
 // bytes and 8,192 operands of at most 21.
@@ -134,6 +151,9 @@ fn put_reply(
     events: &mut [u64],
     operands: &mut [u64],
 ) -> usize {
+    if is_exchange(line) {
+        return put_exchange(out, fill, line, events, operands);
+    }
     let mut list = [0u64; MOST_SKIPS];
     let mut bytes = io::buffer();
     match question_on(line, &mut list, &mut bytes) {

@@ -10,7 +10,10 @@ ghost use Prim.Native.Nat.{_<_};
 ghost use lib.ListN.{length};
 
 // The most numbers that a store has.
-pub const STORE: u64 = 8_192;
+pub const STORE: usize = 8_192;
+
+// The most block numbers to skip.
+pub const MOST_SKIPS: usize = 32;
 
 // How many numbers are skipped, how many numbers each store has, and how many bytes the input; numbers and bytes go into lent buffers.
 pub struct Question {
@@ -62,7 +65,7 @@ fn size(word: &[u8]) -> Count {
     let Number::Is(n) = decimal(word) else {
         return Count::Not;
     };
-    if STORE < n {
+    if (STORE as u64) < n {
         return Count::Not;
     }
     Count::Is(n as usize)
