@@ -123,7 +123,7 @@ module _ {s s' : List ℕ} {lo hi up down : ℕ} {win : Window s s' lo hi up dow
         on _ (rooms e e' (st .room) (st' .room) _ _) (λ _ q₁ g₁ y₁.
         giving-as (recorded from (c .number) (st .fill) r) _
         (ap (λ n. recorded (mv up down from) (c .number) n (move-record up down r)) (omega arith))
-        (omega arith, omega arith, y₁ .0, y .0, omega arith, y .1, refl, refl) (λ v. (v .0, v .1))))
+        (omega arith, omega arith, y₁ .0, y .0, omega arith, y .1, refl) (λ v. (v .0, v .1))))
 
     -- given that both runs are at the end of their bits, or neither is
     pub opening-moves : {e e' p : ℕ} → Ends win e e' → lo ≤ p → ends-at s' e' (mv up down p) ≡ ends-at s e p
@@ -179,7 +179,7 @@ module _ {s s' : List ℕ} {lo hi up down : ℕ} {win : Window s s' lo hi up dow
   complete-moves r ps x h top p₀ h₀ l ended z = giving nothing z (λ v. v)
   complete-moves r ps x h top p₀ h₀ l (defined a) z = giving (some (definition a)) (z .0, z .1, omega arith, tt, tt) (λ v. tt)
   complete-moves r ps x h top p₀ h₀ l (recorded from b first y) z =
-      giving (some (the-record from b first y)) (z .0, z .1, (z .2, z .3), tt, (z .4, z .5, omega (arith, z .7))) (λ v. v)
+      giving (some (the-record from b first y)) (z .0, z .1, (z .2, z .3), tt, (z .4, z .5, omega (arith, z .6))) (λ v. v)
   complete-moves r ps {e} x h top p₀ h₀ l (headed from y) z =
       let f = exact-fits x h y (z .1) in
       let g₀ = headed-le y (limit s e) _ (z .1) in

@@ -114,7 +114,7 @@ module _ (up down : ℕ) where
     Open lim top st p₀ (defined a) q = (p₀ < q) × (p₀ < lim)
     Open lim top st p₀ (recorded from b first r) q =
         (p₀ < q) × (p₀ < lim) × (0 < st .room) × (length (record-list r) ≤ st .left) × (oo ≤ first + og) × RecordFine r
-        × (first ≡ st .fill) × (from ≡ p₀)
+        × (from ≡ p₀)
     Open lim top st p₀ (headed from h) q = (from < q) × Headed lim h q × (from ≡ p₀)
 
     unfoldable mutual

@@ -23,6 +23,7 @@ use Rattle.abbrev.proofs.Answers.{definitions, numbers, lookups, infos}
 use Rattle.walk.specs.Record.{blob-load, stored, values, repeated, octets, bytes-if, bytes, Part, whole, listing, blobbing, payload-part, scalar-part, unabbreviated, array-kind, rest, load-list, record-list}
 use Rattle.walk.specs.Piece.{Head, head, Piece, Pieces, counted, all-counted, store, all-store, State, after, entered}
 use Rattle.walk.specs.Item.{Context, Begun, closing, heads, defines, records, heading, used, begun, begin, Opening, ended, defined, recorded, headed, event-room, leave-room, fits, finish, at-end, opening, within, Pass, Sub, body-of, complete, item, going-on, items, nested}
+use Rattle.walk.proofs.Blobs.{octets-length}
 use Rattle.walk.proofs.Contents.{LoadAt, RecordAt, Placed, AllPlaced}
 
 -- ---- records: no more operands than there is room for
@@ -39,11 +40,6 @@ repeats : (left n : ℕ) (k : ScalarOperand) {s : List ℕ} {e p : ℕ} → Answ
 unfolding repeated
 repeats left zero k = gives _ (omega arith)
 repeats left (suc n) k = on _ (storeds left k) (λ v q l h. on _ (repeats (left - 1) n k) (λ vs r m g. gives _ (omega arith)))
-
-octets-length : (s : List ℕ) (p n : ℕ) → length (octets s p n) ≡ n
-unfolding octets
-octets-length s p zero = refl
-octets-length s p (suc n) = ap suc (octets-length s (p + 8) n)
 
 -- a blob that begins on a byte stands there
 unfoldable ByteRun : List ℕ → ℕ → List ℕ → Type 0

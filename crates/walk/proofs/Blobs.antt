@@ -1,6 +1,7 @@
--- What the blob accessor shows is what the definition reads: the bytes of a blob, read as bits, are that part of the stream. Assumes nothing.
+-- Blobs: as many bytes as are asked for; and what the blob accessor shows is what the definition reads: the bytes, read as bits, are that part of the
+-- stream. Assumes nothing.
 use mathlib.Core.List.{List, _∷_}
-use mathlib.Core.Path.{_≡_, refl, ap₂, sym}
+use mathlib.Core.Path.{_≡_, refl, ap, ap₂, sym}
 use Prim.Native.Nat.{ℕ, zero, suc, _+_, _*_, _/_, _%_, _≤_, _<_}
 use native.Mathlib.Omega.{arith}
 use native.Mathlib.Numerals.{add-one}
@@ -12,6 +13,11 @@ use Rattle.bits.specs.Bits.{field}
 use Rattle.bits.proofs.Laws.{Bytes, field-in-byte}
 use Rattle.bitcode.specs.Header.{bytes-of}
 use Rattle.walk.specs.Record.{octets}
+
+pub octets-length : (s : List ℕ) (p n : ℕ) → length (octets s p n) ≡ n
+unfolding octets
+octets-length s p zero = refl
+octets-length s p (suc n) = ap suc (octets-length s (p + 8) n)
 
 -- eight bits from a byte's first on are that byte
 byte-field : (s : List ℕ) (b : ℕ) → Bytes s → field s (8 * b) 8 ≡ getD s b 0

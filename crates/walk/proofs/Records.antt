@@ -3,7 +3,7 @@
 use mathlib.Core.Path.{_≡_, refl, sym, ap, subst, fun-ext, _∙_}
 use mathlib.Core.Bool.{Bool, true, false}
 use mathlib.Core.List.{List, _∷_, _++_, append-assoc, append-nil}
-use Prim.Native.Nat.{ℕ, zero, suc, _+_, _-_, _*_, _/_, _%_, _^_, _≤_, _<_}
+use Prim.Native.Nat.{ℕ, _+_, _-_, _*_, _/_, _%_, _^_, _≤_, _<_}
 use native.Mathlib.Omega.{arith}
 use lib.ListN.{length, take}
 use lib.Seq.{length-take-le}
@@ -30,6 +30,7 @@ use Rattle.walk.specs.declared.Got.{Got}
 use Rattle.walk.specs.declared.Got.the-variants as G
 use Rattle.walk.specs.declared.HeadRead.{HeadRead}
 use Rattle.walk.specs.declared.HeadRead.the-variants as H
+use Rattle.walk.proofs.Blobs.{octets-length}
 use Rattle.walk.proofs.Runs.{slots-first}
 
 abbrev pub record-read : ℕ → ℕ → ℕ → ℕ → ℕ → ℕ → RecordRead
@@ -111,11 +112,6 @@ array-loads {n = n} k ops ops′ ys r x y h t m = record {
   operands = t;
   most = m;
 }
-
-octets-length : (s : List ℕ) (p n : ℕ) → length (octets s p n) ≡ n
-unfolding octets
-octets-length s p zero = refl
-octets-length s p (suc n) = ap suc (octets-length s (p + 8) n)
 
 -- a skip from a byte's first bit takes what the bytes of a blob take
 bytes-at : {c d : Cursor} {s : List ℕ} (n : ℕ) → At (skip n) s (c .end) (c .at) tt d → At (bytes n) s (c .end) (c .at) (octets s (c .at) n) d
