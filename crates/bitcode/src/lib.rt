@@ -14,7 +14,7 @@ ghost use Rattle.bitcode.specs.Header.{word, wrapped as wrappedOf, signa
 ghost use Rattle.bitcode.specs.Operands.{next, next-below, next-bool, next-signed, next-range, placeOf, ofU8, ofU16, ofU32, ofU64, ofBool, ofI64, ofRange};
 
 // The word that a wrapper's header begins with.
-const LLVM_BITCODE_WRAPPER_MAGIC: u64 = 0x0B17_C0DE;
+pub const LLVM_BITCODE_WRAPPER_MAGIC: u64 = 0x0B17_C0DE;
 
 // How a scalar operand of an abbreviation is read.
 pub enum ScalarOperand {

@@ -35,12 +35,13 @@ casings : List ℕ
 casings =
     0x42 ∷ 0x43 ∷ 0xC0 ∷ 0xDE ∷ 0x21 ∷ 0x10 ∷ 0x00 ∷ 0x00 ∷ 0x06 ∷ 0x00 ∷ 0x00 ∷ 0x00 ∷ 0x32 ∷ 0x06 ∷ 0x98 ∷ 0x20 ∷
     0x1A ∷ 0x0A ∷ 0x0C ∷ 0x0E ∷ 0x22 ∷ 0x61 ∷ 0x00 ∷ 0x00 ∷ 0x01 ∷ 0x00 ∷ 0x00 ∷ 0x00 ∷ 0x3B ∷ 0x02 ∷ 0x53 ∷ 0x00 ∷
-    0x00 ∷ 0x00 ∷ 0x00 ∷ 0x00 ∷ 0x21 ∷ 0x10 ∷ 0x00 ∷ 0x00 ∷ 0x04 ∷ 0x00 ∷ 0x00 ∷ 0x00 ∷ 0x32 ∷ 0x0A ∷ 0x90 ∷ 0x51 ∷
-    0x42 ∷ 0x03 ∷ 0x01 ∷ 0x00 ∷ 0x61 ∷ 0x62 ∷ 0x00 ∷ 0x00 ∷ 0x00 ∷ 0x00 ∷ 0x00 ∷ 0x00 ∷ 0x0F ∷ 0x43 ∷ 0xA2 ∷ 0x2C ∷
+    0x00 ∷ 0x00 ∷ 0x00 ∷ 0x00 ∷ 0x21 ∷ 0x10 ∷ 0x00 ∷ 0x00 ∷ 0x05 ∷ 0x00 ∷ 0x00 ∷ 0x00 ∷ 0x32 ∷ 0x0A ∷ 0x90 ∷ 0x51 ∷
+    0x42 ∷ 0x03 ∷ 0x01 ∷ 0x00 ∷ 0x61 ∷ 0x62 ∷ 0x00 ∷ 0x00 ∷ 0x32 ∷ 0x16 ∷ 0x18 ∷ 0x96 ∷ 0x00 ∷ 0x6C ∷ 0x00 ∷ 0x00 ∷
+    0x0F ∷ 0x43 ∷ 0xA2 ∷ 0x2C ∷
     []
 
 casings-header : Signature
-casings-header = record { magic = 0xdec04342; magic2 = 0; version = 0; offset = 4; size = 60; cpu = 0 }
+casings-header = record { magic = 0xdec04342; magic2 = 0; version = 0; offset = 4; size = 64; cpu = 0 }
 
 -- a definition, by it a record of code 1 with the array 5, 6, 7; block 9 with a record of code 7 with the operand 70
 casings-first : Piece
@@ -49,26 +50,28 @@ casings-first = block 0 (head 8 4 8 24)
     (_then_ (the-record 95 8 0 (a-record 1 [] (list-load 1 (5 ∷ 6 ∷ 7 ∷ []))))
     (_then_ (block 129 (head 9 3 24 4) (_then_ (the-record 192 9 3 (a-record 7 (70 ∷ []) no-load)) (done 219))) (done 224))))
 
--- another definition, by it a record of code 2 with the operand 40 and a blob
+-- another definition, by it a record of code 2 with the operand 40 and a blob; a second one, by it a record of code 5 with the Char6 array "aB"
 casings-second : Piece
-casings-second = block 256 (head 8 4 40 16)
+casings-second = block 256 (head 8 4 40 20)
     (_then_ (definition (abbreviation (Literal 2 ∷ Vbr 6 ∷ []) blob))
-    (_then_ (the-record 351 8 4 (a-record 2 (40 ∷ []) (blob-load 48 (0x61 ∷ 0x62 ∷ [])))) (done 416)))
+    (_then_ (the-record 351 8 4 (a-record 2 (40 ∷ []) (blob-load 48 (0x61 ∷ 0x62 ∷ []))))
+    (_then_ (definition (abbreviation (Literal 5 ∷ []) (array Char6)))
+    (_then_ (the-record 442 8 5 (a-record 5 [] (list-load 2 (97 ∷ 66 ∷ [])))) (done 464)))))
 
 -- behind them: a record of code 3 with the operands 9, 10, 11
 casings-spot : Spot
-casings-spot = right-here (_then_ (the-record 448 4294967295 5 (a-record 3 (9 ∷ 10 ∷ 11 ∷ []) no-load)) (done 480))
+casings-spot = right-here (_then_ (the-record 480 4294967295 7 (a-record 3 (9 ∷ 10 ∷ 11 ∷ []) no-load)) (done 512))
 
 casings-swapped : List Event
 casings-swapped =
-    enter 8 4 8 16 ∷ record-event 8 2 0 1 3 16 2 ∷ leave 8 ∷
-    enter 8 4 32 24 ∷ record-event 8 1 1 0 1 1 3 ∷ enter 9 3 48 4 ∷ record-event 9 7 4 1 0 0 0 ∷ leave 9 ∷ leave 8 ∷
-    record-event 4294967295 3 5 3 0 0 0 ∷
+    enter 8 4 8 20 ∷ record-event 8 2 0 1 3 16 2 ∷ record-event 8 5 1 0 2 1 2 ∷ leave 8 ∷
+    enter 8 4 36 24 ∷ record-event 8 1 3 0 1 3 3 ∷ enter 9 3 52 4 ∷ record-event 9 7 6 1 0 0 0 ∷ leave 9 ∷ leave 8 ∷
+    record-event 4294967295 3 7 3 0 0 0 ∷
     []
 
 casings-seen : List Shown
 casings-seen =
-    enters 8 4 16 ∷ holds 8 2 (40 ∷ []) 3 (0x61 ∷ 0x62 ∷ []) ∷ leaves 8 ∷
+    enters 8 4 20 ∷ holds 8 2 (40 ∷ []) 3 (0x61 ∷ 0x62 ∷ []) ∷ holds 8 5 [] 2 (97 ∷ 66 ∷ []) ∷ leaves 8 ∷
     enters 8 4 24 ∷ holds 8 1 [] 1 (5 ∷ 6 ∷ 7 ∷ []) ∷ enters 9 3 4 ∷ holds 9 7 (70 ∷ []) 0 [] ∷ leaves 9 ∷ leaves 8 ∷
     holds 4294967295 3 (9 ∷ 10 ∷ 11 ∷ []) 0 [] ∷
     []
@@ -122,9 +125,9 @@ deep-swapped =
 
 -- ---- what the walk gives, by evaluation: as they are, and exchanged
 evaluated :
-    (walk casings [] 80 8 ≡ accepted casings-header (plug casings-spot casings-first casings-second))
-    × (events-of (walk (exchanged casings casings-first casings-second) [] 80 8) ≡ casings-swapped)
-    × (seen (exchanged casings casings-first casings-second) (walk (exchanged casings casings-first casings-second) [] 80 8) ≡ casings-seen)
+    (walk casings [] 88 10 ≡ accepted casings-header (plug casings-spot casings-first casings-second))
+    × (events-of (walk (exchanged casings casings-first casings-second) [] 88 10) ≡ casings-swapped)
+    × (seen (exchanged casings casings-first casings-second) (walk (exchanged casings casings-first casings-second) [] 88 10) ≡ casings-seen)
     × (walk deep deep-skips 72 4 ≡ accepted deep-header (plug deep-spot deep-first deep-second))
     × (events-of (walk (exchanged deep deep-first deep-second) deep-skips 72 4) ≡ deep-swapped)
 unfolding casings casings-header casings-first casings-second casings-spot casings-swapped casings-seen
@@ -140,16 +143,16 @@ unfolding casings casings-header casings-first casings-second casings-spot casin
 evaluated = (refl, refl, refl, refl, refl)
 
 -- ---- demand 3 applies to both
-casings-hold : Exchanged casings [] 80 8 casings-header casings-spot casings-first casings-second
+casings-hold : Exchanged casings [] 88 10 casings-header casings-spot casings-first casings-second
 unfolding IsBlock Quiet Quiets casings casings-first casings-second from-of word
-casings-hold = demand-3 casings [] 80 8 casings-header casings-spot casings-first casings-second (record {
+casings-hold = demand-3 casings [] 88 10 casings-header casings-spot casings-first casings-second (record {
   meets = evaluated .0;
   first-block = tt;
   second-block = tt;
   aligned = refl;
   clear = λ z. absurd (omega arith);
   first-quiet = (tt, (tt, ((tt, tt), tt)));
-  second-quiet = (tt, (tt, tt));
+  second-quiet = (tt, (tt, (tt, (tt, tt))));
 })
 
 deep-holds : Exchanged deep deep-skips 72 4 deep-header deep-spot deep-first deep-second

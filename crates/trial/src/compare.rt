@@ -2,16 +2,16 @@
 use crate::group::ARRAY;
 use crate::group::BLOB;
 use crate::group::CHAR6;
-use crate::group::ENTER;
 use crate::group::Plan;
-use crate::group::RECORD;
-use crate::group::SKIP;
 use crate::group::less;
 use crate::group::sum;
 use bitcode::blob;
 use terms::EVENT_SIZE;
 use text::store::number_at;
 use text::store::numbers_of;
+use walk::ENTER;
+use walk::RECORD;
+use walk::SKIP;
 
 // What an event is to be: an event of the input, whose byte places and operand places are moved by so much, down or up.
 pub struct Demand {

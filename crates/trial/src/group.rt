@@ -1,17 +1,13 @@
 // The events of a block, and what an exchange of two blocks does with the events: read off the stores of a walk.
 use crate::exchanged::Places;
+use bitcode::LLVM_BITCODE_WRAPPER_MAGIC;
 use bitcode::Signature;
 use terms::EVENT_SIZE;
 use text::store::number_at;
-
-// The event kinds.
-pub const ENTER: u64 = 1;
-
-pub const LEAVE: u64 = 2;
-
-pub const RECORD: u64 = 3;
-
-pub const SKIP: u64 = 4;
+use walk::ENTER;
+use walk::LEAVE;
+use walk::RECORD;
+use walk::SKIP;
 
 // The payload kinds whose values lie in the operand store, and the one whose bytes lie in the input.
 pub const ARRAY: u64 = 1;
@@ -19,9 +15,6 @@ pub const ARRAY: u64 = 1;
 pub const CHAR6: u64 = 2;
 
 pub const BLOB: u64 = 3;
-
-// The word that a wrapper's header begins with.
-const WRAPPER_MAGIC: u64 = 0x0B17_C0DE;
 
 // Events that stand one behind the other: the first one, and the one behind the last.
 struct Group {
@@ -71,7 +64,7 @@ pub fn entry(events: &[u64], x: u64) -> &[u64] {
 
 // The byte of the input where the stream begins: behind the magic word, and in a wrapper behind the first word of what it holds.
 fn base(h: Signature) -> u64 {
-    if h.magic == WRAPPER_MAGIC {
+    if h.magic == LLVM_BITCODE_WRAPPER_MAGIC {
         return sum(h.offset, 4);
     }
     4

@@ -49,13 +49,13 @@ ghost use Rattle.walk.specs.Contracts.{entryOf, frame, marks, refusalOf,
 const TOP_LEVEL_BLOCK_ID: u64 = 0xFFFF_FFFF;
 
 // The event kinds.
-const ENTER: u64 = 1;
+pub const ENTER: u64 = 1;
 
-const LEAVE: u64 = 2;
+pub const LEAVE: u64 = 2;
 
-const RECORD: u64 = 3;
+pub const RECORD: u64 = 3;
 
-const SKIP: u64 = 4;
+pub const SKIP: u64 = 4;
 
 // What the walk returns: 0 or the refusal's number, its place in bits of the stream and its details; the header numbers; and how many events and
 // operands the stores hold.
