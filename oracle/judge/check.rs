@@ -1,5 +1,5 @@
 //! One input, held against everything: our library against 01's rules, the Rust against ours in the stated domain, and outside of it against the list.
-use crate::answer::{Answer, Sheet};
+use crate::answer::Answer;
 use crate::apart::{End, guarded};
 use crate::notes::{Difference, RUSTS};
 use crate::ours::Left;
@@ -81,11 +81,7 @@ fn hold(theirs: Theirs, visitor: Answer, iterator: Answer, what: &str) -> Result
 
 /// The Rust's answers where differences were met: by the rules with the Rust's way gone at each. Its iterators don't hide a payload that fails.
 fn hold_listed(case: &Case, theirs: Theirs, spoiled: Spoiled) -> Result<(), String> {
-    let answer = |ways: u32| {
-        let outcome = rules::walk(&case.input, &case.skip, case.events, case.operands, ways & !spoiled.unturned);
-        let sheet = Sheet { told: outcome.told(), operands: &outcome.operands, input: &case.input };
-        sheet.answer(outcome.events.iter().map(|entry| &entry[..]))
-    };
+    let answer = |ways: u32| rules::walk(&case.input, &case.skip, case.events, case.operands, ways & !spoiled.unturned).answer(&case.input);
     hold(theirs, answer(RUSTS), answer(RUSTS & !Difference::Payload.bit()), "outside of the stated domain, and not as listed")
 }
 

@@ -1,6 +1,6 @@
-//! The list for the program replay: the Rust's answers to inputs that are chosen so that under each refusal number every two rules that any input meets
+//! The list for the program replay, and what the program is to print of it: the Rust's answers to inputs that are chosen so that under each refusal number every two rules that any input meets
 //! together are met together by one of them, and so for every two widths of operands where a log is accepted; then the smallest inputs that show each difference; then those of oracle/found.txt.
-use crate::answer::{Answer, hex};
+use crate::answer::{Answer, bytes_of, hex};
 use crate::apart::{self, End, Page};
 use crate::check::Case;
 use crate::generate;
@@ -8,7 +8,7 @@ use crate::notes::Difference;
 use crate::ours::Left;
 use crate::rules;
 use crate::shrink::shrink;
-use crate::{theirs, tiny};
+use crate::{TINY, theirs, tiny};
 use std::sync::atomic::Ordering::Relaxed;
 
 /// The two stores that replay lends.
@@ -52,10 +52,16 @@ pub fn rusts(case: &Case) -> String {
     String::from_utf8(words.take(length).collect()).expect("the notation is ASCII")
 }
 
+/// Our library's answer.
 pub fn ours(case: &Case) -> String {
     let mut left = Left::default();
     left.walk(&case.input, &case.skip, case.events, case.operands);
     left.answer(&case.input).to_string()
+}
+
+/// The answer by 01's rules: what ours is to be.
+fn ruled(case: &Case) -> String {
+    rules::walk(&case.input, &case.skip, case.events, case.operands, 0).answer(&case.input).to_string()
 }
 
 /// Which pairs, of rules or of widths, were met together under which status.
@@ -107,10 +113,10 @@ fn chosen(seed: u64, count: u64) -> Vec<(u64, Case)> {
     kept
 }
 
-/// Whether an input shows this difference and no other: the Rust answers, and otherwise than ours. No difference: the Rust ends.
+/// Whether an input with the plain magic shows this difference and no other: the Rust answers, and otherwise than ours. No difference: the Rust ends.
 fn shows(case: &Case, difference: Option<Difference>) -> bool {
     let left = rules::walk(&case.input, &case.skip, STORE, STORE, 0).notes.left;
-    left == difference.map_or(0, Difference::bit) && {
+    case.input.starts_with(b"BC\xC0\xDE") && left == difference.map_or(0, Difference::bit) && {
         let rust = rusts(case);
         (rust == "ends") == difference.is_none() && rust != ours(case)
     }
@@ -118,9 +124,9 @@ fn shows(case: &Case, difference: Option<Difference>) -> bool {
 
 /// The smallest inputs found that show a difference.
 fn smallest(seed: u64, difference: Option<Difference>) -> Vec<Case> {
-    let cases = (0..40_000).map(|index| fixed_stores(generate::case(seed ^ 1, index)));
-    let plain = cases.filter(|case| case.input.starts_with(b"BC\xC0\xDE"));
-    let showing = plain.filter(|case| shows(case, difference)).take(4);
+    let tiny_ones = (0..if difference.is_some() { TINY } else { 0 }).map(tiny);
+    let cases = tiny_ones.chain((0..40_000).map(|index| generate::case(seed ^ 1, index))).map(fixed_stores);
+    let showing = cases.filter(|case| shows(case, difference)).take(16);
     let mut small: Vec<Case> = showing.map(|case| shrink(case, |case| shows(case, difference))).collect();
     small.sort_by_key(|case| (case.input.len(), case.input.clone()));
     small.dedup_by_key(|case| case.input.clone());
@@ -128,50 +134,98 @@ fn smallest(seed: u64, difference: Option<Difference>) -> Vec<Case> {
     small
 }
 
-/// The inputs of oracle/found.txt, and its comments.
-fn found() -> Vec<Result<Case, String>> {
-    let text = std::fs::read_to_string("oracle/found.txt").unwrap_or_default();
-    let entry = |line: &str| match line.split_once(" | ") {
-        Some((asked, _)) => {
-            let (skips, bytes) = asked.split_once(' ').expect("skips and bytes");
-            let (skip, input) = (crate::skips_of(skips).expect("skips"), crate::bytes_of(bytes).expect("bytes"));
-            Ok(fixed_stores(Case { input, skip, events: 0, operands: 0 }))
+/// A line of the list: a question with the Rust's answer, or text that is handed back, or text that is no question.
+enum Entry {
+    Asked(Case, String),
+    Comment(String),
+    Other(&'static str),
+}
+
+impl Entry {
+    fn asked(case: Case) -> Self {
+        let rust = rusts(&case);
+        Self::Asked(case, rust)
+    }
+
+    /// The line of the list.
+    fn line(&self) -> String {
+        match self {
+            Self::Asked(case, rust) => line(case, rust),
+            Self::Comment(text) => text.clone(),
+            Self::Other(text) => (*text).into(),
         }
-        None => Err(line.to_string()),
+    }
+
+    /// What the program is to print of it.
+    fn printed(&self) -> String {
+        match self {
+            Self::Asked(case, rust) if ruled(case) == *rust => String::new(),
+            Self::Asked(case, _) => format!("{}\n  ours {}\n", self.line(), ruled(case)),
+            Self::Comment(text) => format!("{text}\n"),
+            Self::Other(text) => format!("{text}\n  ?\n"),
+        }
+    }
+}
+
+/// The inputs of the stated domain, by status and length; those on which the Rust ends are none.
+fn domain(seed: u64, count: u64) -> Vec<Entry> {
+    let mut kept = chosen(seed, count);
+    kept.sort_by_key(|(status, case)| (*status, case.input.len(), case.input.clone(), case.skip.clone()));
+    let asked = kept.into_iter().map(|(_, case)| Entry::asked(case));
+    asked.filter(|entry| !matches!(entry, Entry::Asked(_, rust) if rust == "ends")).collect()
+}
+
+/// The smallest inputs that show each difference.
+fn differences(seed: u64) -> Vec<Entry> {
+    let mut entries = Vec::new();
+    let listed = Difference::ALL.iter().filter(|(difference, _)| *difference != Difference::InputLimit);
+    for (difference, name) in listed.map(|(difference, name)| (Some(*difference), *name)).chain([(None, "want of memory")]) {
+        entries.push(Entry::Comment(format!("# {name}")));
+        let small = smallest(seed, difference).into_iter().map(Entry::asked).enumerate();
+        entries.extend(small.filter(|(i, entry)| *i == 0 || entry.line().len() < MOST_LINE).map(|(_, entry)| entry));
+    }
+    entries
+}
+
+/// The inputs of oracle/found.txt, and its comments.
+fn found() -> Vec<Entry> {
+    let text = std::fs::read_to_string("oracle/found.txt").expect("oracle/found.txt");
+    let entry = |line: &str| {
+        let (false, Some((asked, _))) = (line.starts_with('#'), line.split_once(" | ")) else {
+            return Entry::Comment(line.into());
+        };
+        let (skips, bytes) = asked.split_once(' ').expect("skips and bytes");
+        let (skip, input) = (crate::skips_of(skips).expect("skips"), bytes_of(bytes).expect("bytes"));
+        Entry::asked(fixed_stores(Case { input, skip, events: 0, operands: 0 }))
     };
-    text.lines().filter(|line| line.starts_with('#') || line.contains(" | ")).map(entry).collect()
+    text.lines().map(entry).collect()
 }
 
 const HEAD: &str = "\
-# The answers of llvm-bitcode-rs, as `oracle/run RUST list` writes them. A line is SKIPS BYTES ANSWER: the block numbers to skip, the input,
-# and what the Rust says of it. First inputs of the stated domain, chosen so that under each refusal number every two rules that are met
-# together are met together in a line here, and every two widths of operands in a line that is accepted; then the smallest inputs that show each difference; then those of oracle/found.txt.";
+# The answers of llvm-bitcode-rs, as `oracle/run RUST list` writes them. A line is SKIPS BYTES ANSWER: the block numbers to skip, the input, and
+# what the Rust says of it; `ends` where its process ended. First inputs of the stated domain, chosen so that under each refusal number every two
+# rules that are met together are met together in a line here, and every two widths of operands in a line that is accepted. Then the smallest
+# inputs that show each difference, those of oracle/found.txt, and lines that are no question.";
 
-pub fn print(seed: u64, count: u64) -> bool {
-    println!("{HEAD}");
-    let mut kept = chosen(seed, count);
-    kept.sort_by_key(|(status, case)| (*status, case.input.len(), case.input.clone(), case.skip.clone()));
-    let mut lines = 0;
-    for (_, case) in &kept {
-        let rust = rusts(case);
-        if rust != "ends" {
-            assert_eq!(rust, ours(case), "in the stated domain the answers are the same: {}", hex(&case.input));
-            println!("{}", line(case, &rust));
-            lines += 1;
-        }
-    }
-    let differences = Difference::ALL.iter().filter(|(difference, _)| *difference != Difference::InputLimit);
-    for (difference, name) in differences.map(|(difference, name)| (Some(*difference), *name)).chain([(None, "want of memory")]) {
-        println!("# {name}");
-        let lines = smallest(seed, difference).into_iter().map(|case| line(&case, &rusts(&case)));
-        lines.enumerate().filter(|(i, line)| *i == 0 || line.len() < MOST_LINE).for_each(|(_, line)| println!("{line}"));
-    }
-    for entry in found() {
-        match entry {
-            Ok(case) => println!("{}", line(&case, &rusts(&case))),
-            Err(comment) => println!("{comment}"),
-        }
-    }
-    eprintln!("{lines} lines of the stated domain");
-    lines > 0
+/// Lines that the program is to tell from questions.
+const NO_QUESTIONS: [&str; 3] = ["8, 4243c0de 0 3737142082 0 0 4 0 0", "- 4243c0d 0 3737142082 0 0 4 0 0", "- 4243c0de"];
+
+/// Writes the list and what the program is to print of it; whether the answers are the same in the stated domain.
+pub fn write(seed: u64, count: u64) -> bool {
+    let mut entries = vec![Entry::Comment(HEAD.into())];
+    entries.extend(domain(seed, count));
+    let inside = entries.len();
+    entries.extend(differences(seed).into_iter().chain(found()));
+    entries.push(Entry::Comment("# No questions".into()));
+    entries.extend(NO_QUESTIONS.map(Entry::Other));
+    let list: String = entries.iter().map(|entry| entry.line() + "\n").collect();
+    let printed: Vec<String> = entries.iter().map(Entry::printed).collect();
+    let asked = entries.iter().filter(|entry| matches!(entry, Entry::Asked(..))).count();
+    let differ = entries.iter().zip(&printed).filter(|(entry, text)| matches!(entry, Entry::Asked(..)) && !text.is_empty()).count();
+    let same = asked - differ;
+    std::fs::write("crates/replay/stdin", list).expect("the list is written");
+    std::fs::write("crates/replay/stdout", printed.concat() + &format!("{asked} answers, {same} the same\n"))
+        .expect("what is to be printed is written");
+    println!("{asked} answers, {same} the same; {} of the stated domain", inside - 1);
+    printed[1..inside].iter().all(String::is_empty)
 }

@@ -5,7 +5,7 @@
 //!                              COUNT generated ones; the first fault is shrunk and shown
 //! judge spoil [SEED]           that the judge can fail: each line of the list taken out, each not turned the Rust's way, a refusal misnamed
 //! judge calls                  single calls of cursor and typed operands: the questions of the program probe, asked of the Rust
-//! judge list [SEED [COUNT]]    the list for the program replay
+//! judge list [SEED [COUNT]]    writes the list for the program replay, and what it is to print of it
 //! judge show FILE ..           both answers to each file
 //! judge hex SKIPS BYTES        both answers to an input in hex digits; SKIPS are block numbers with commas between them, or `-`
 //! ```
@@ -171,7 +171,7 @@ fn main() -> ExitCode {
         ["run", ..] => compare(number(1, SEED), number(2, COUNT)),
         ["spoil", ..] => spoil(number(1, SEED)),
         ["calls"] => calls::compare(),
-        ["list", ..] => list::print(number(1, SEED), number(2, LISTED)),
+        ["list", ..] => list::write(number(1, SEED), number(2, LISTED)),
         ["show", ..] => show_files(&words[1..]),
         ["hex", skips, bytes] => show_hex(skips, bytes),
         _ => {

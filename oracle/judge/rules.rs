@@ -1,6 +1,7 @@
 //! A third walk: document 01's rules in plain Rust, a sentence beside each. It decides whether an input lies in the stated domain, and it can go the
 //! Rust's way at each difference that 01 lists. So our library is held against 01 on every input; the Rust against ours in the domain; and outside
 //! of it against the list: what the list doesn't say is a fault.
+use crate::answer::{Answer, Sheet};
 use crate::notes::{Difference, Notes, Rule};
 use crate::stream::{Cursor, Got, Refusal, refuse};
 use std::rc::Rc;
@@ -46,6 +47,11 @@ impl Outcome {
     pub fn told(&self) -> [u64; 12] {
         let ([a, b], h) = (self.details, self.header);
         [self.status, self.place, a, b, h[0], h[1], h[2], h[3], h[4], h[5], self.events.len() as u64, self.operands.len() as u64]
+    }
+
+    /// The answer, as far as the Rust tells one.
+    pub fn answer(&self, input: &[u8]) -> Answer {
+        Sheet { told: self.told(), operands: &self.operands, input }.answer(self.events.iter().map(|entry| &entry[..]))
     }
 }
 

@@ -1,7 +1,7 @@
 -- The room that the dump lends for its text holds the text of every input. Assumes nothing.
 use mathlib.Core.Bool.{Bool, true, false}
 use mathlib.Core.List.{List, [], _∷_, _++_, append-assoc}
-use mathlib.Core.Path.{_≡_, refl, ap₂, _∙_}
+use mathlib.Core.Path.{_≡_, refl}
 use Prim.Native.Nat.{ℕ, zero, suc, _+_, _-_, _*_, _/_, _≤_}
 use native.Mathlib.Omega.{arith}
 use lib.Dec.{ltb}
@@ -13,10 +13,10 @@ use Rattle.walk.specs.declared.Walked.{Walked}
 use Rattle.walk.specs.Piece.{Event, enter, skip, leave, record-event, all-events, all-store}
 use Rattle.walk.specs.Walk.{Outcome, denied, accepted, walk, entry, entries, filled, result, walked}
 use Rattle.walk.proofs.Whole.{counts-events, entries-length, filled-length, Fits, walk-fits}
-use Rattle.walk.proofs.Stores.{take-sets}
 use Rattle.walk.proofs.Weights.{weight, weights, weights-most}
 use Rattle.text.specs.Text.{Puts}
 use Rattle.text.specs.Dump.{status-line, dump, shown as showing}
+use Rattle.text.proofs.Puts.{puts-whole}
 use Rattle.text.proofs.Lengths.{Most, more, status-most, entry-weight, entry-weights, entry-weights-front, dump-most}
 use Rattle.dump.specs.Dumped.{too-long, shown, dumped}
 
@@ -79,7 +79,4 @@ dump-fits input = by-test (ltb 65536 (length input)) (more (walked-most input []
 
 -- so what stands in the buffer behind `put_input` is the whole text, and nothing else is written
 pub dump-whole : (input buffer after : List ℕ) (r : ℕ) → length buffer ≡ 524288 → Puts buffer after 0 r (dumped input) → take r after ≡ dumped input
-dump-whole input buffer after r long p =
-    let h = dump-fits input in
-    let n : r ≡ 0 + length (dumped input) = omega (arith, p .mark, h) in
-    ap₂ take n (p .bytes) ∙ take-sets (dumped input) buffer 0 (omega (arith, h))
+dump-whole input buffer after r long p = puts-whole p (omega (arith, dump-fits input))

@@ -2,7 +2,7 @@
 //
 // Each line of standard input is a question, `OP N AT END BYTES`: a letter, three decimal numbers, and hex digits, two a byte, or `-`. The
 // answer is that line, ` -> ` and what the call says, and `?` for a line that is no question. An empty line and one that begins with `#`
-// are handed back as they stand. Of the input 65,536 bytes are read.
+// are handed back as they stand. A line has 65,536 bytes at most.
 //
 //   of Cursor { at: AT, end: END } over BYTES:  r read(N)  p peek(N)  v read_vbr(N)  a align32  s skip_bytes(N)  b read_bytes(N)
 //                                               t take_slice(N)  l unconsumed_bit_len  e is_at_end
@@ -23,27 +23,26 @@ use bitcode::Signature;
 use cursor::ask_cursor;
 use cursor::ask_scalar;
 use cursor::cursor_of;
-use libc::STDIN_FILENO;
-use libc::STDOUT_FILENO;
 use scan::Question;
 use scan::Scan;
 use scan::question_on;
+use text::feed::Line;
+use text::feed::flush;
+use text::feed::made_room;
 use text::front;
 use text::put_byte;
 use text::put_bytes;
 use text::put_hex;
-use text::scan::find;
 use text::scan::is_asking;
 use typed::ask_typed;
 
 // The most bytes of a question.
 const MOST_BYTES: usize = 256;
 
-// The longest line, its line end, and the longest answer: ` -> ` and 256 bytes in hex.
-const ROOM: usize = 66_560;
+// What holds the longest line, its line end, and the longest answer: ` -> ` and 256 bytes in hex.
+const MOST: usize = 66_560;
 
-// What an answer and its line end take at most.
-const ANSWER: usize = 1_024;
+const ROOM: usize = 133_120;
 
 // The answer to a question that has numbers for an answer.
 fn ask(q: Question, s: &[u8]) -> Answer {
@@ -97,33 +96,22 @@ fn put_line(out: &mut [u8], fill: usize, line: &[u8]) -> usize {
     put_byte(out, at, b'\n')
 }
 
-// Writes out what is in use of the buffer if it has no room for the line and its answer, and tells what is in use now.
-fn made_room(out: &[u8], fill: usize, line: usize) -> usize {
-    if fill <= ROOM - ANSWER {
-        if line <= ROOM - ANSWER - fill {
-            return fill;
-        }
-    }
-    io::write_all(STDOUT_FILENO, front(out, fill));
-    0
-}
-
-// Answers every line of a text.
-fn answer_all(text: &[u8], out: &mut [u8]) {
+// Answers every line of the input.
+fn answer_all(text: &mut [u8], out: &mut [u8]) {
     let mut fill = 0;
-    let mut at = 0;
-    while at < text.len() {
-        let e = find(text, at, b'\n');
-        fill = made_room(out, fill, e - at);
-        fill = put_line(out, fill, &text[at..e]);
-        at = e + 1;
+    let mut line = Line::first(text);
+    while 0 < line.left {
+        let a = line.start;
+        let e = line.end;
+        fill = made_room(out, fill, MOST);
+        fill = put_line(out, fill, &text[a..e]);
+        line = line.behind(text);
     }
-    io::write_all(STDOUT_FILENO, front(out, fill));
+    flush(out, fill);
 }
 
 fn main() {
     let mut text = io::large_buffer();
     let mut out = [0u8; ROOM];
-    let n = io::read_full(STDIN_FILENO, &mut text);
-    answer_all(&text[..n], &mut out);
+    answer_all(&mut text, &mut out);
 }

@@ -5,3 +5,4 @@ pub mod Signs
 pub mod Parts
 pub mod Once
 pub mod Lengths
+pub mod Same

@@ -1,12 +1,13 @@
 -- How text goes into a buffer piece by piece: a piece behind another is both, one behind the other. Assumes nothing.
 use mathlib.Core.List.{List, [], _∷_, _++_}
-use mathlib.Core.Path.{_≡_, refl, sym, ap, _∙_}
+use mathlib.Core.Path.{_≡_, refl, sym, ap, ap₂, _∙_}
 use mathlib.Core.Logic.{⊎-elim}
 use Prim.Native.Nat.{ℕ, zero, suc, _+_, _-_, _≤_, _<_, min}
 use native.Mathlib.Nat.{eq-zero-or-pos}
 use native.Mathlib.Omega.{arith}
-use lib.ListN.{length, set, length-append}
+use lib.ListN.{length, take, set, length-append}
 use lib.Seq.{sets, length-sets, set-out}
+use Rattle.walk.proofs.Stores.{take-sets}
 use Rattle.text.specs.Text.{Puts}
 
 -- what is put past the end changes nothing
@@ -46,3 +47,9 @@ puts-then {l} {l′} {l″} {f} {g} {h} {a} {b} x y =
           ∙ rw (x .bytes, x .mark) (ap (λ (k : ℕ). sets (sets l f a) (f + min (length a) (k - f)) b) (sym (length-sets l f a)) ∙ sym (sets-from (sets l f a) f (length a) b) ∙ sym (sets-both l f a b));
       mark = rw (length-append a b) (omega (arith, x .mark, y .mark, n));
     }
+
+-- what is put at the front of a buffer that holds it stands there whole
+pub puts-whole : {buffer after text : List ℕ} {r : ℕ} → Puts buffer after 0 r text → length text ≤ length buffer → take r after ≡ text
+puts-whole {buffer} {after} {text} {r} p h =
+    let n : r ≡ 0 + length text = omega (arith, p .mark) in
+    ap₂ take n (p .bytes) ∙ take-sets text buffer 0 (omega arith)

@@ -1,7 +1,7 @@
 -- What the contracts of `text` cite: text as a list of ASCII codes, and what putting it into a buffer does. Assumes nothing.
 use mathlib.Core.List.{List, [], _∷_, _++_}
 use mathlib.Core.Path.{_≡_}
-use mathlib.Core.Bool.{cond}
+use mathlib.Core.Bool.{Bool, true, cond}
 use Prim.Native.Nat.{ℕ, zero, suc, _+_, _-_, _/_, _%_, min, max}
 use lib.ListN.{length}
 use lib.Seq.{sets}
@@ -54,3 +54,8 @@ item (suc i) v = (44 ∷ []) ++ decimal v
 unfoldable pub items : ℕ → List ℕ → List ℕ
 items i [] = []
 items i (v ∷ vs) = item i v ++ items (suc i) vs
+
+-- whether two texts are the same is told as it is
+pub record Tells (told : Bool) (a b : List ℕ) : Type 0 where
+  pub if-told : told ≡ true → a ≡ b
+  pub if-same : a ≡ b → told ≡ true

@@ -2,9 +2,11 @@
 // does not fit is left out. Each call is total and asks nothing of its caller.
 //
 //   here        bytes, numbers in decimal and hex, lists of numbers
+//   feed        standard input line by line, standard output in pieces
 //   lines       the lines of the dump
-//   scan        the place of a letter, decimal and hex digits
+//   scan        the place of a letter, words, decimal and hex digits, lists of numbers
 //   store       stores of numbers
+pub mod feed;
 pub mod lines;
 pub mod scan;
 pub mod store;
@@ -15,7 +17,7 @@ ghost use Prim.Native.Nat.{_<_};
 ghost use lib.ListN.{take};
 ghost use lib.IntN.{natAbs};
 ghost use Rattle.io.specs.Digits.{glyph};
-ghost use Rattle.text.specs.Text.{Puts, decimal, signed, word, pair, pairs, hex, item, items};
+ghost use Rattle.text.specs.Text.{Puts, decimal, signed, word, pair, pairs, hex, item, items, Tells};
 
 // The first n bytes, and all where there are fewer.
 pub fn front(s: &[u8], n: usize) -> &[u8]
@@ -25,6 +27,23 @@ pub fn front(s: &[u8], n: usize) -> &[u8]
         return &s[0..n];
     }
     s
+}
+
+// Whether two texts are the same.
+pub fn same_bytes(a: &[u8], b: &[u8]) -> bool
+    ensures { λ r. ⌜ Tells r (now (a .entry)) (now (b .entry)) ⌝ }
+{
+    if a.len() != b.len() {
+        return false;
+    }
+    let mut i = 0;
+    while i < a.len() {
+        if a[i] != b[i] {
+            return false;
+        }
+        i += 1;
+    }
+    true
 }
 
 pub fn put_byte(out: &mut [u8], fill: usize, b: u8) -> usize
@@ -108,7 +127,8 @@ fn put_pair(out: &mut [u8], fill: usize, b: u8) -> usize
     put_byte(out, at, hex_digit(b % 16))
 }
 
-fn put_pairs(out: &mut [u8], fill: usize, s: &[u8]) -> usize
+// Bytes as hex digits, two a byte; nothing for none.
+pub fn put_pairs(out: &mut [u8], fill: usize, s: &[u8]) -> usize
     ensures { λ r. ⌜ Puts (now (out .entry)) (now (out .exit)) fill r (pairs (now (s .entry))) ⌝ }
 {
     let mut at = fill;

@@ -5,27 +5,25 @@ use crate::put_decimal;
 use crate::put_named;
 use crate::put_numbers;
 use crate::put_word;
+use crate::store::entry;
 use crate::store::number_at;
 use crate::store::numbers_of;
 use bitcode::Signature;
 use terms::EVENT_SIZE;
+use walk::ARRAY;
+use walk::BLOB;
+use walk::CHAR6;
+use walk::ENTER;
+use walk::LEAVE;
+use walk::NO_PAYLOAD;
+use walk::RECORD;
+use walk::SKIP;
 use walk::Walked;
 ghost use mathlib.Core.Path.{_≡_};
 ghost use mathlib.Core.List.{_++_};
-ghost use Prim.Native.Nat.{_/_, _≤_, _<_};
 ghost use lib.ListN.{length};
 ghost use Rattle.text.specs.Text.{Puts, word, items};
-ghost use Rattle.text.specs.Dump.{status-line, fields, signature, front, kind as kindOf, head, body, listed, payload, record-text, rest, event-line, entry as entryOf, event-lines, shown as shownOf, dump};
-
-// The numbers of an event.
-fn entry(events: &[u64], i: usize) -> &[u64]
-    requires { ⌜ i < length (now events) / 8 ⌝ }
-    ensures { λ r. ⌜ now r ≡ entryOf (now (events .entry)) i ⌝ }
-{
-    let a = EVENT_SIZE * i;
-    let e = a + EVENT_SIZE;
-    &events[a..e]
-}
+ghost use Rattle.text.specs.Dump.{status-line, fields, signature, front, kind as kindOf, head, body, listed, payload, record-text, rest, event-line, event-lines, shown as shownOf, dump};
 
 // The first line: `status=0 place=0 first=0 second=0`.
 pub fn put_status(out: &mut [u8], fill: usize, w: Walked) -> usize
@@ -78,10 +76,10 @@ fn put_kind(out: &mut [u8], fill: usize, kind: u64) -> usize
     ensures { λ r. ⌜ Puts (now (out .entry)) (now (out .exit)) fill r (kindOf kind) ⌝ }
 {
     match kind {
-        1 => put_bytes(out, fill, b"enter"),
-        2 => put_bytes(out, fill, b"leave"),
-        3 => put_bytes(out, fill, b"record"),
-        4 => put_bytes(out, fill, b"skip"),
+        ENTER => put_bytes(out, fill, b"enter"),
+        LEAVE => put_bytes(out, fill, b"leave"),
+        RECORD => put_bytes(out, fill, b"record"),
+        SKIP => put_bytes(out, fill, b"skip"),
         _ => put_decimal(out, fill, kind),
     }
 }
@@ -127,10 +125,10 @@ fn put_payload(
     ensures { λ r. ⌜ Puts (now (out .entry)) (now (out .exit)) fill r (payload kind place count (now (operands .entry))) ⌝ }
 {
     match kind {
-        0 => put_bytes(out, fill, b"none"),
-        1 => put_list(out, fill, b"array:", numbers_of(operands, place, count)),
-        2 => put_list(out, fill, b"char6:", numbers_of(operands, place, count)),
-        3 => {
+        NO_PAYLOAD => put_bytes(out, fill, b"none"),
+        ARRAY => put_list(out, fill, b"array:", numbers_of(operands, place, count)),
+        CHAR6 => put_list(out, fill, b"char6:", numbers_of(operands, place, count)),
+        BLOB => {
             let at = put_named(out, fill, b"blob:", place);
             put_named(out, at, b",", count)
         }
@@ -161,9 +159,9 @@ fn put_rest(out: &mut [u8], fill: usize, kind: u64, e: &[u64], operands: &[u64])
     ensures { λ r. ⌜ Puts (now (out .entry)) (now (out .exit)) fill r (rest kind (now (e .entry)) (now (operands .entry))) ⌝ }
 {
     match kind {
-        1 => put_body(out, fill, e),
-        4 => put_body(out, fill, e),
-        3 => put_record(out, fill, e, operands),
+        ENTER => put_body(out, fill, e),
+        SKIP => put_body(out, fill, e),
+        RECORD => put_record(out, fill, e, operands),
         _ => fill,
     }
 }
@@ -178,9 +176,8 @@ pub fn put_event(out: &mut [u8], fill: usize, i: u64, e: &[u64], operands: &[u64
 }
 
 // How many events are shown: as many as are told of, if the store holds them.
-fn shown(told: u64, size: usize) -> usize
+pub fn shown(told: u64, size: usize) -> usize
     ensures { λ r. ⌜ r ≡ shownOf told size ⌝ }
-    ensures { λ r. ⌜ r ≤ size / 8 ⌝ }
 {
     let held = size / EVENT_SIZE;
     if told < held as u64 {
@@ -197,7 +194,7 @@ fn put_events(out: &mut [u8], fill: usize, told: u64, events: &[u64], operands: 
     let mut at = fill;
     let mut i = 0;
     while i < n {
-        at = put_event(out, at, i as u64, entry(events, i), operands);
+        at = put_event(out, at, i as u64, entry(events, i as u64), operands);
         i += 1;
     }
     at

@@ -1,7 +1,11 @@
-// Numbers and bytes out of text.
+// Words, numbers and bytes out of text.
 use crate::put_byte;
+use crate::store::set_number;
 ghost use Prim.Native.Nat.{_+_, _≤_, min};
 ghost use lib.ListN.{length};
+
+// The most block numbers to skip that a question has.
+pub const MOST_SKIPS: usize = 32;
 
 pub enum Number {
     Is(u64),
@@ -45,6 +49,21 @@ pub fn find_behind(s: &[u8], at: usize, b: u8) -> usize
     find(s, at + 1, b)
 }
 
+// What stands before the first space of a line, and all of it where there is none.
+pub fn word(line: &[u8]) -> &[u8] {
+    let e = find(line, 0, b' ');
+    &line[0..e]
+}
+
+// What stands behind the first space, and nothing where there is none.
+pub fn behind_word(line: &[u8]) -> &[u8] {
+    let e = find(line, 0, b' ');
+    if e < line.len() {
+        return &line[e + 1..];
+    }
+    &line[0..0]
+}
+
 // A number with one more digit behind it, where that is a digit and 64 bits hold the whole.
 fn with_digit(v: u64, letter: u8) -> Number {
     if letter < b'0' {
@@ -75,6 +94,38 @@ pub fn decimal(word: &[u8]) -> Number {
         i += 1;
     }
     Number::Is(v)
+}
+
+// Decimal numbers with commas between them, into a list; and how many they are.
+fn numbers(word: &[u8], list: &mut [u64]) -> Count {
+    let mut n = 0;
+    let mut at = 0;
+    while at <= word.len() {
+        let e = find(word, at, b',');
+        match decimal(&word[at..e]) {
+            Number::Not => return Count::Not,
+            Number::Is(v) => set_number(list, n, v),
+        }
+        n += 1;
+        at = e + 1;
+    }
+    Count::Is(n)
+}
+
+// The numbers to skip, if the list holds them; and how many they are. `-` is none.
+pub fn skips(word: &[u8], list: &mut [u64]) -> Count {
+    if word.len() == 1 {
+        if word[0] == b'-' {
+            return Count::Is(0);
+        }
+    }
+    let Count::Is(n) = numbers(word, list) else {
+        return Count::Not;
+    };
+    if list.len() < n {
+        return Count::Not;
+    }
+    Count::Is(n)
 }
 
 // What a hex digit stands for, and 16 for any other letter.

@@ -1,6 +1,8 @@
 // Stores of numbers: a number, a part, a number written. What lies outside is left out.
+use terms::EVENT_SIZE;
 ghost use mathlib.Core.Path.{_≡_};
 ghost use lib.ListN.{getD, set, take, drop};
+ghost use Rattle.text.specs.Dump.{entry as entryOf};
 
 // The number at a place, and 0 where there is none.
 pub fn number_at(store: &[u64], i: usize) -> u64
@@ -35,4 +37,15 @@ pub fn numbers_of(store: &[u64], place: u64, count: u64) -> &[u64]
     }
     let e = (place + count) as usize;
     &store[a..e]
+}
+
+// The numbers of the event i.
+pub fn entry(events: &[u64], i: u64) -> &[u64]
+    ensures { λ r. ⌜ now r ≡ entryOf (now (events .entry)) i ⌝ }
+{
+    let size = EVENT_SIZE as u64;
+    if (events.len() as u64) / size < i {
+        return &events[0..0];
+    }
+    numbers_of(events, size * i, size)
 }

@@ -1,14 +1,15 @@
 // Whether an event of the exchanged input is an event of the input, moved as demand 3 says.
-use crate::group::ARRAY;
-use crate::group::BLOB;
-use crate::group::CHAR6;
 use crate::group::Plan;
 use crate::group::less;
 use crate::group::sum;
 use bitcode::blob;
 use terms::EVENT_SIZE;
+use text::same_bytes;
 use text::store::number_at;
 use text::store::numbers_of;
+use walk::ARRAY;
+use walk::BLOB;
+use walk::CHAR6;
 use walk::ENTER;
 use walk::RECORD;
 use walk::SKIP;
@@ -19,21 +20,6 @@ pub struct Demand {
     pub bytes: u64,
     pub operands: u64,
     pub down: bool,
-}
-
-// Whether two texts are the same.
-pub fn same_bytes(a: &[u8], b: &[u8]) -> bool {
-    if a.len() != b.len() {
-        return false;
-    }
-    let mut i = 0;
-    while i < a.len() {
-        if a[i] != b[i] {
-            return false;
-        }
-        i += 1;
-    }
-    true
 }
 
 // Whether two lists of numbers are the same.

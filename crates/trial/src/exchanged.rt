@@ -1,8 +1,9 @@
 // An exchange, read off its line: `exchange I J K` and one space before the words of the other question; and the bytes exchanged.
-use crate::compare::same_bytes;
+use text::same_bytes;
 use text::scan::Number;
+use text::scan::behind_word;
 use text::scan::decimal;
-use text::scan::find;
+use text::scan::word;
 ghost use mathlib.Core.Path.{_≡_};
 ghost use mathlib.Core.Bool.{true};
 ghost use Prim.Native.Nat.{_≤_, _<_};
@@ -19,21 +20,6 @@ pub struct Places {
 pub enum Exchange {
     Asked(Places),
     Other,
-}
-
-// What stands before the first space.
-fn word(line: &[u8]) -> &[u8] {
-    let e = find(line, 0, b' ');
-    &line[0..e]
-}
-
-// What stands behind the first space, and nothing where there is none.
-fn behind_word(line: &[u8]) -> &[u8] {
-    let e = find(line, 0, b' ');
-    if e < line.len() {
-        return &line[e + 1..];
-    }
-    &line[0..0]
 }
 
 // Whether a line asks for an exchange: that is its first word.

@@ -2,19 +2,14 @@
 use crate::exchanged::Places;
 use bitcode::LLVM_BITCODE_WRAPPER_MAGIC;
 use bitcode::Signature;
-use terms::EVENT_SIZE;
+use text::store::entry;
 use text::store::number_at;
+use walk::ARRAY;
+use walk::CHAR6;
 use walk::ENTER;
 use walk::LEAVE;
 use walk::RECORD;
 use walk::SKIP;
-
-// The payload kinds whose values lie in the operand store, and the one whose bytes lie in the input.
-pub const ARRAY: u64 = 1;
-
-pub const CHAR6: u64 = 2;
-
-pub const BLOB: u64 = 3;
 
 // Events that stand one behind the other: the first one, and the one behind the last.
 struct Group {
@@ -50,16 +45,6 @@ pub fn less(a: u64, b: u64) -> u64 {
         return 0;
     }
     a - b
-}
-
-// The eight numbers of an event, and nothing where the store has no such event.
-pub fn entry(events: &[u64], x: u64) -> &[u64] {
-    if (events.len() / EVENT_SIZE) as u64 <= x {
-        return &events[0..0];
-    }
-    let a = EVENT_SIZE * (x as usize);
-    let e = a + EVENT_SIZE;
-    &events[a..e]
 }
 
 // The byte of the input where the stream begins: behind the magic word, and in a wrapper behind the first word of what it holds.

@@ -26,34 +26,29 @@ mod scan;
 
 use exchanged::is_exchange;
 use judge::put_exchange;
-use libc::STDIN_FILENO;
-use libc::STDOUT_FILENO;
-use scan::MOST_SKIPS;
 use scan::Question;
 use scan::STORE;
 use scan::Scan;
 use scan::question_on;
 use terms::EVENT_SIZE;
+use text::feed::Line;
+use text::feed::flush;
+use text::feed::made_room;
 use text::front;
 use text::lines::put_dump;
 use text::put_byte;
 use text::put_bytes;
-use text::scan::find;
+use text::scan::MOST_SKIPS;
 use text::scan::is_asking;
 use text::store::numbers_of;
 use walk::Walked;
 use walk::walk;
 ghost use Prim.Native.Nat.{_≤_};
-ghost use lib.ListN.{length};
 
-// The buffer goes out when so much of it is in use: what is left holds the longest line, 65,536 bytes, and the longest dump, 1,024 lines of at most 150
-// bytes and 8,192 operands of at most 21.
-const FULL: usize = 131_072;
+// What holds the longest line, 65,536 bytes, and the longest dump, 1,024 lines of at most 150 bytes and 8,192 operands of at most 21.
+const MOST: usize = 393_216;
 
 const ROOM: usize = 524_288;
-
-// How often the input is read, a buffer of 65,536 bytes each time.
-const MOST_READS: u64 = 65_536;
 
 // A number that no walk is to leave behind, all over a store.
 fn stain(store: &mut [u64]) {
@@ -186,95 +181,16 @@ fn put_line(
     b
 }
 
-// Writes out what is in use of the buffer, and tells what is in use then: nothing.
-fn flush(out: &[u8], fill: usize) -> usize {
-    io::write_all(STDOUT_FILENO, front(out, fill));
-    0
-}
-
-// Writes the buffer out if it is full enough, and tells what is in use then.
-fn made_room(out: &[u8], fill: usize) -> usize {
-    if fill < FULL {
-        return fill;
-    }
-    flush(out, fill)
-}
-
-// Answers every line of a text; tells what is in use of the buffer.
-fn answer_lines(
-    text: &[u8],
-    out: &mut [u8],
-    fill: usize,
-    events: &mut [u64],
-    operands: &mut [u64],
-) -> usize {
-    let mut used = fill;
-    let mut at = 0;
-    while at < text.len() {
-        let e = find(text, at, b'\n');
-        used = made_room(out, used);
-        used = put_line(out, used, &text[at..e], events, operands);
-        at = e + 1;
-    }
-    used
-}
-
-// The place behind the last line end of a text, and the end of the text where it has none and fills its buffer.
-fn whole_lines(text: &[u8], room: usize) -> usize
-    ensures { λ r. ⌜ r ≤ length (now (text .entry)) ⌝ }
-{
-    let mut i = text.len();
-    while 0 < i {
-        if text[i - 1] == b'\n' {
-            return i;
-        }
-        i -= 1;
-    }
-    if text.len() < room {
-        return 0;
-    }
-    text.len()
-}
-
-// Moves what lies from one place to another to the front; tells how much that is.
-fn to_front(text: &mut [u8], from: usize, end: usize) -> usize
-    requires { ⌜ (from ≤ end) × (end ≤ length (now text)) ⌝ }
-    ensures { λ r. ⌜ r ≤ end ⌝ }
-{
-    let n = end - from;
-    let mut i = 0;
-    while i < n {
-        text[i] = text[from + i];
-        i += 1;
-    }
-    n
-}
-
-// Reads behind the first n bytes; tells where what is read ends.
-fn read_behind(text: &mut [u8], n: usize) -> usize
-    requires { ⌜ n ≤ length (now text) ⌝ }
-    ensures { λ r. ⌜ (n ≤ r) × (r ≤ length (now (text .exit))) ⌝ }
-{
-    n + io::read_full(STDIN_FILENO, &mut text[n..])
-}
-
-// Answers the whole input: each time the lines that are there whole, and the last one when nothing more comes.
+// Answers every line of the input.
 fn answer_all(text: &mut [u8], out: &mut [u8], events: &mut [u64], operands: &mut [u64]) {
     let mut fill = 0;
-    let mut kept = 0;
-    let room = text.len();
-    let mut reads = MOST_READS;
-    while 0 < reads {
-        let end = read_behind(text, kept);
-        if end == kept {
-            fill = answer_lines(&text[0..end], out, fill, events, operands);
-            flush(out, fill);
-            return;
-        }
-        let whole = whole_lines(&text[0..end], room);
-        fill = answer_lines(&text[0..whole], out, fill, events, operands);
-        kept = to_front(text, whole, end);
-        reads -= 1;
+    let mut line = Line::first(text);
+    while 0 < line.left {
+        let a = line.start;
+        let e = line.end;
+        fill = made_room(out, fill, MOST);
+        fill = put_line(out, fill, &text[a..e], events, operands);
+        line = line.behind(text);
     }
     flush(out, fill);
 }

@@ -5,15 +5,12 @@ use text::scan::decimal;
 use text::scan::find;
 use text::scan::find_behind;
 use text::scan::hex;
-use text::store::set_number;
+use text::scan::skips;
 ghost use Prim.Native.Nat.{_<_};
 ghost use lib.ListN.{length};
 
 // The most numbers that a store has.
 pub const STORE: usize = 8_192;
-
-// The most block numbers to skip.
-pub const MOST_SKIPS: usize = 32;
 
 // How many numbers are skipped, how many numbers each store has, and how many bytes the input; numbers and bytes go into lent buffers.
 pub struct Question {
@@ -26,38 +23,6 @@ pub struct Question {
 pub enum Scan {
     Asked(Question),
     Other,
-}
-
-// Decimal numbers with commas between them, into a list; and how many they are.
-fn numbers(word: &[u8], list: &mut [u64]) -> Count {
-    let mut n = 0;
-    let mut at = 0;
-    while at <= word.len() {
-        let e = find(word, at, b',');
-        match decimal(&word[at..e]) {
-            Number::Not => return Count::Not,
-            Number::Is(v) => set_number(list, n, v),
-        }
-        n += 1;
-        at = e + 1;
-    }
-    Count::Is(n)
-}
-
-// The numbers to skip, if the list holds them; and how many they are. `-` is none.
-fn skips(word: &[u8], list: &mut [u64]) -> Count {
-    if word.len() == 1 {
-        if word[0] == b'-' {
-            return Count::Is(0);
-        }
-    }
-    let Count::Is(n) = numbers(word, list) else {
-        return Count::Not;
-    };
-    if list.len() < n {
-        return Count::Not;
-    }
-    Count::Is(n)
 }
 
 // The size of a store.

@@ -57,6 +57,15 @@ pub const RECORD: u64 = 3;
 
 pub const SKIP: u64 = 4;
 
+// The payload kinds: the values of an array, of Char6 or of any other element, lie in the operand store, the bytes of a blob in the input.
+pub const NO_PAYLOAD: u64 = 0;
+
+pub const ARRAY: u64 = 1;
+
+pub const CHAR6: u64 = 2;
+
+pub const BLOB: u64 = 3;
+
 // What the walk returns: 0 or the refusal's number, its place in bits of the stream and its details; the header numbers; and how many events and
 // operands the stores hold.
 pub struct Walked {
@@ -345,7 +354,7 @@ fn read_unabbreviated(c: Cursor, s: &[u8], operands: &mut [u64], fill: usize) ->
                     RecordRead {
                         code,
                         count: n,
-                        kind: 0,
+                        kind: NO_PAYLOAD,
                         at: 0,
                         length: 0,
                         fill: fill + n as usize,
@@ -399,10 +408,10 @@ fn array_kind(k: ScalarOperand) -> u64
     ensures { λ r. ⌜ r ≡ array-kind k ⌝ }
 {
     match k {
-        ScalarOperand::Char6 => 2,
-        ScalarOperand::Literal(_) => 1,
-        ScalarOperand::Fixed(_) => 1,
-        ScalarOperand::Vbr(_) => 1,
+        ScalarOperand::Char6 => CHAR6,
+        ScalarOperand::Literal(_) => ARRAY,
+        ScalarOperand::Fixed(_) => ARRAY,
+        ScalarOperand::Vbr(_) => ARRAY,
     }
 }
 
@@ -444,7 +453,7 @@ fn read_blob_bytes(c: Cursor, s: &[u8], n: u64, r: RecordRead) -> Got
                 RecordRead {
                     code: r.code,
                     count: r.count,
-                    kind: 3,
+                    kind: BLOB,
                     at: c.at / 8,
                     length: n,
                     fill: r.fill,
@@ -504,7 +513,7 @@ fn read_abbreviated(
                 let r = RecordRead {
                     code,
                     count: (n - 1) as u64,
-                    kind: 0,
+                    kind: NO_PAYLOAD,
                     at: 0,
                     length: 0,
                     fill: fill + (n - 1),

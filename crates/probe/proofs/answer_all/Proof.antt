@@ -1,5 +1,5 @@
--- `probe::answer_all` is safe and ends. The buffer keeps its length. The measure is what is left of the text.
-use Prim.Native.Nat.{_-_}
+-- `probe::answer_all` is safe and ends. The line lies in the text, and all that is lent keeps its length. The measure is how many lines may come.
+use Prim.Native.Nat.{_≤_}
 use mathlib.Core.Path.{_≡_}
 use lib.ListN.{length}
 use borrow.Author.Needs.{needs}
@@ -7,19 +7,20 @@ use Rattle.probe.proofs.answer_all.Statement.{statement}
 use Rattle.probe.proofs.answer_all.Tie as tie
 
 abbrev Inv-loop : tie.InvT-loop
-Inv-loop text out₀ fill₀ at₀ out fill at = length out ≡ length out₀
+Inv-loop text₀ out₀ fill₀ line₀ text out fill line =
+    (line .start ≤ line .end)
+    × (line .end ≤ length text)
+    × (length text ≡ length text₀)
+    × (length out ≡ length out₀)
 
 abbrev μ-loop : tie.MeasureT-loop
-μ-loop text out₀ fill₀ at₀ out fill at = length text - at
+μ-loop text₀ out₀ fill₀ line₀ text out fill line = line .left
+
+first-requires : tie.Need-first-requires Inv-loop μ-loop
+first-requires c κs = search needs
 
 loop-holds : tie.Need-loop-holds Inv-loop μ-loop
 loop-holds c = search needs
-
-find-requires : tie.Need-find-requires Inv-loop μ-loop
-find-requires c κs = search needs
-
-sub-made-room : tie.Need-sub-made-room Inv-loop μ-loop
-sub-made-room c = search needs
 
 made-room-requires : tie.Need-made-room-requires Inv-loop μ-loop
 made-room-requires c κs = search needs
@@ -36,8 +37,8 @@ part-put-line-end c = search needs
 put-line-requires : tie.Need-put-line-requires Inv-loop μ-loop
 put-line-requires c κs = search needs
 
-add-at : tie.Need-add-at Inv-loop μ-loop
-add-at c = search needs
+behind-requires : tie.Need-behind-requires Inv-loop μ-loop
+behind-requires c κs = search needs
 
 loop-less : tie.Need-loop-less Inv-loop μ-loop
 loop-less c = search needs
@@ -45,14 +46,14 @@ loop-less c = search needs
 loop-again : tie.Need-loop-again Inv-loop μ-loop
 loop-again c = search needs
 
-front-requires : tie.Need-front-requires Inv-loop μ-loop
-front-requires c κs = search needs
-
-write-all-requires : tie.Need-write-all-requires Inv-loop μ-loop
-write-all-requires c κs = search needs
+flush-requires : tie.Need-flush-requires Inv-loop μ-loop
+flush-requires c κs = search needs
 
 same-length : tie.Need-same-length Inv-loop μ-loop
 same-length c = search needs
+
+same-length-2 : tie.Need-same-length-2 Inv-loop μ-loop
+same-length-2 c = search needs
 
 returns : tie.Need-returns Inv-loop μ-loop
 returns c = search needs
@@ -63,18 +64,17 @@ answer-all-spec =
     (tie.spec
     Inv-loop
     μ-loop
+    first-requires
     loop-holds
-    find-requires
-    sub-made-room
     made-room-requires
     sub-put-line
     part-put-line-start
     part-put-line-end
     put-line-requires
-    add-at
+    behind-requires
     loop-less
     loop-again
-    front-requires
-    write-all-requires
+    flush-requires
     same-length
+    same-length-2
     returns)

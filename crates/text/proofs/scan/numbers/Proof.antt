@@ -1,10 +1,10 @@
--- `trial::scan::numbers` is safe and ends. The list keeps its length, and each number takes a letter at least.
+-- `text::scan::numbers` is safe and ends. The list keeps its length, and each number takes a letter at least.
 use Prim.Native.Nat.{_+_, _≤_, _-_}
 use mathlib.Core.Path.{_≡_}
 use lib.ListN.{length}
 use borrow.Author.Needs.{needs}
-use Rattle.trial.proofs.scan.numbers.Statement.{statement}
-use Rattle.trial.proofs.scan.numbers.Tie as tie
+use Rattle.text.proofs.scan.numbers.Statement.{statement}
+use Rattle.text.proofs.scan.numbers.Tie as tie
 
 abbrev Inv-loop : tie.InvT-loop
 Inv-loop word list₀ n₀ at₀ list n at = (n ≤ at) × (at ≤ length word + 1) × (length list ≡ length list₀)

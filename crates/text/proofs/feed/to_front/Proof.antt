@@ -1,31 +1,28 @@
--- `trial::to_front` is safe and ends. The text keeps its length. The measure is what is still to be moved.
-use Prim.Native.Nat.{_≤_, _-_}
+-- `text::feed::to_front` is safe and ends. The text keeps its length. The measure is what is still to be moved.
+use Prim.Native.Nat.{_+_, _-_, _≤_, max}
 use mathlib.Core.Path.{_≡_}
 use lib.ListN.{length}
 use borrow.Author.Needs.{needs}
-use Rattle.trial.proofs.to_front.Statement.{statement}
-use Rattle.trial.proofs.to_front.Tie as tie
+use Rattle.text.proofs.feed.to_front.Statement.{statement}
+use Rattle.text.proofs.feed.to_front.Tie as tie
 
 abbrev Inv-loop : tie.InvT-loop
-Inv-loop text₀ from end n i₀ text i = (i ≤ n) × (length text ≡ length text₀)
+Inv-loop text₀ from end n₀ i₀ text n i = (i ≡ from + n) × (i ≤ max from end) × (length text ≡ length text₀)
 
 abbrev μ-loop : tie.MeasureT-loop
-μ-loop text₀ from end n i₀ text i = n - i
-
-sub-n : tie.Need-sub-n Inv-loop μ-loop
-sub-n c = search needs
+μ-loop text₀ from end n₀ i₀ text n i = end - i
 
 loop-holds : tie.Need-loop-holds Inv-loop μ-loop
 loop-holds c = search needs
-
-add-text : tie.Need-add-text Inv-loop μ-loop
-add-text c = search needs
 
 slice-read-text : tie.Need-slice-read-text Inv-loop μ-loop
 slice-read-text c = search needs
 
 slice-write-text : tie.Need-slice-write-text Inv-loop μ-loop
 slice-write-text c = search needs
+
+add-n : tie.Need-add-n Inv-loop μ-loop
+add-n c = search needs
 
 add-i : tie.Need-add-i Inv-loop μ-loop
 add-i c = search needs
@@ -48,11 +45,10 @@ to-front-spec =
     (tie.spec
     Inv-loop
     μ-loop
-    sub-n
     loop-holds
-    add-text
     slice-read-text
     slice-write-text
+    add-n
     add-i
     loop-less
     loop-again
