@@ -14,7 +14,7 @@ import model
 import vectors_walk
 
 TOP = 2 ** 64 - 1
-INPUT_LIMIT = 60_000        # bytes of stdin; the probe reads 65,536
+INPUT_LIMIT = 60_000        # bytes of stdin, so that the file stays small
 RANDOM_QUESTIONS = 600
 SEED = 20_240_101
 

@@ -5,7 +5,7 @@
 The files are made on the spot, in target/oracle/files, by this machine's clang and rustc out of sources.py; what can't
 be made here is left out, and said. Then, for each file:
 
-- what ours accepts must be the Rust's answer to the letter, and item by item what llvm-bcanalyzer shows;
+- what ours accepts must be the Rust's answer to the letter, and item by item what llvm-bcanalyzer shows, if it is there;
 - what ours refuses must be refused by the Rust alike, unless by a limit of ours (15 to 20).
 
 Why a file is refused is found out by the model of audit/, with one rule after the other turned LLVM's way, until its
@@ -233,6 +233,8 @@ class Tally:
         self.count['equal to the Rust'] += ours == rust
         if ours != rust:
             self.wrong.append('%s: ours and the Rust: %s' % (name, first_apart(ours.split(' '), rust.split(' '))))
+        if llvm is None:
+            return
         mine = analyzer.flat(ours)
         self.count['equal to LLVM'] += mine == llvm
         self.count['items'] += len(mine.split(' ')) - 1 if mine == llvm else 0
@@ -245,6 +247,8 @@ class Tally:
         self.count['equal to the Rust'] += ours == rust
         if ours != rust and number not in LIMITS:
             self.wrong.append('%s: ours %s, the Rust %s' % (name, ours, rust[:60]))
+        if llvm is None:
+            return
         why = reason((FILES / name).read_bytes(), llvm)
         if not why:
             self.wrong.append('%s: refused with %s, for no reason that is known' % (name, ours))
@@ -260,7 +264,7 @@ def compare(judge, made):
         before = tally.count.copy()
         for name in names:
             ours, rust = answers[str(FILES / name)]
-            llvm = analyzer.answer(FILES / name)
+            llvm = analyzer.answer(FILES / name) if analyzer.program() else None
             (tally.accepted if ours[:2] == '0 ' else tally.refused)(name, ours, rust, llvm)
         size, now = sum((FILES / name).stat().st_size for name in names), tally.count - before
         counts = tuple(now[what] for what in ('accepted', 'refused', 'equal to the Rust', 'items'))
@@ -270,8 +274,8 @@ def compare(judge, made):
 
 
 def main(judge):
-    if not analyzer.program() or not shutil.which(judge):
-        sys.exit('there is no llvm-bcanalyzer, or no judge')
+    if not analyzer.program():
+        print('there is no llvm-bcanalyzer: ours and the Rust alone')
     made = make_all()
     tally = compare(judge, made)
     for why, names in tally.reasons.items():

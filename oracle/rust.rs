@@ -6,10 +6,7 @@ pub mod bitstream;
 pub mod read;
 pub mod visitor;
 
-pub use self::bitcode::Bitcode;
-pub use self::bits::Cursor;
-pub use self::read::BitStreamReader;
-pub use self::visitor::BitStreamVisitor;
+pub use self::{bitcode::Bitcode, bits::Cursor, read::BitStreamReader, visitor::BitStreamVisitor};
 
 /// The calls that are private to the crate, and that the judge asks one by one.
 pub mod inner {

@@ -27,7 +27,8 @@ pub enum Verdict {
     Fault(String),
 }
 
-/// How the Rust is asked to show a fault of the judge itself: a difference that is not on the list, or one refusal named wrongly.
+/// What is wrong with the judge on purpose, to see that it finds faults: differences that are not on the list, differences that are not turned the Rust's
+/// way, or a refusal that the Rust names wrongly.
 #[derive(Clone, Copy, Default)]
 pub struct Spoiled {
     pub missing: u32,
@@ -85,9 +86,9 @@ fn hold_listed(case: &Case, theirs: Theirs, spoiled: Spoiled) -> Result<(), Stri
     hold(theirs, answer(RUSTS), answer(RUSTS & !Difference::Payload.bit()), "outside of the stated domain, and not as listed")
 }
 
-/// The Rust's side of a case, once ours was found to be as ruled.
-pub fn rust_side(case: &Case, left: &Left, ruled: &Outcome, spoiled: Spoiled) -> Verdict {
-    let mut theirs = match theirs(case) {
+/// How a case came out, once ours was found to be as ruled and the Rust was asked.
+pub fn verdict(case: &Case, left: &Left, ruled: &Outcome, theirs: Result<Theirs, End>, spoiled: Spoiled) -> Verdict {
+    let mut theirs = match theirs {
         Ok(theirs) => theirs,
         Err(End::Memory) => return Verdict::NoMemory,
         Err(_) => return Verdict::Fault("the Rust panics, and not for want of memory".into()),

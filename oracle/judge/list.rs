@@ -4,7 +4,7 @@ use crate::answer::{Answer, bytes_of, hex};
 use crate::apart::{self, End, Page};
 use crate::check::Case;
 use crate::generate;
-use crate::notes::Difference;
+use crate::notes::{Difference, RULES, Rule};
 use crate::ours::Left;
 use crate::rules;
 use crate::shrink::shrink;
@@ -210,7 +210,16 @@ const HEAD: &str = "\
 /// Lines that the program is to tell from questions.
 const NO_QUESTIONS: [&str; 3] = ["8, 4243c0de 0 3737142082 0 0 4 0 0", "- 4243c0d 0 3737142082 0 0 4 0 0", "- 4243c0de"];
 
-/// Writes the list and what the program is to print of it; whether the answers are the same in the stated domain.
+/// The rules that no line of the list meets.
+fn unmet(entries: &[Entry]) -> Vec<&'static str> {
+    let met = entries.iter().fold(0, |met, entry| match entry {
+        Entry::Asked(case, _) => met | rules::walk(&case.input, &case.skip, case.events, case.operands, 0).notes.rules,
+        _ => met,
+    });
+    (0..RULES).filter(|rule| met >> rule & 1 == 0).map(Rule::name).collect()
+}
+
+/// Writes the list and what the program is to print of it; whether each rule is met, and the answers are the same in the stated domain.
 pub fn write(seed: u64, count: u64) -> bool {
     let mut entries = vec![Entry::Comment(HEAD.into())];
     entries.extend(domain(seed, count));
@@ -221,11 +230,11 @@ pub fn write(seed: u64, count: u64) -> bool {
     let list: String = entries.iter().map(|entry| entry.line() + "\n").collect();
     let printed: Vec<String> = entries.iter().map(Entry::printed).collect();
     let asked = entries.iter().filter(|entry| matches!(entry, Entry::Asked(..))).count();
-    let differ = entries.iter().zip(&printed).filter(|(entry, text)| matches!(entry, Entry::Asked(..)) && !text.is_empty()).count();
-    let same = asked - differ;
+    let same = entries.iter().zip(&printed).filter(|(entry, text)| matches!(entry, Entry::Asked(..)) && text.is_empty()).count();
     std::fs::write("crates/replay/stdin", list).expect("the list is written");
     std::fs::write("crates/replay/stdout", printed.concat() + &format!("{asked} answers, {same} the same\n"))
         .expect("what is to be printed is written");
-    println!("{asked} answers, {same} the same; {} of the stated domain", inside - 1);
-    printed[1..inside].iter().all(String::is_empty)
+    let unmet = unmet(&entries);
+    println!("{asked} answers, {same} the same; {} of the stated domain; rules that no line meets: {unmet:?}", inside - 1);
+    unmet.is_empty() && printed[1..inside].iter().all(String::is_empty)
 }

@@ -48,9 +48,9 @@ fn judge(page: &Page, case: &Case, left: &mut Left, spoiled: Spoiled) -> bool {
     page.word(RULES_HIGH).fetch_or((ruled.notes.rules >> 64) as u64, Relaxed);
     bump(page, STATUS + ruled.status as usize);
     page.word(IN_RUST).store(1, Relaxed);
-    let verdict = check::rust_side(case, left, &ruled, spoiled);
+    let theirs = check::theirs(case);
     page.word(IN_RUST).store(0, Relaxed);
-    match verdict {
+    match check::verdict(case, left, &ruled, theirs, spoiled) {
         Verdict::Fault(_) => return false,
         Verdict::NoMemory => bump(page, NO_MEMORY),
         Verdict::Same => {
@@ -141,7 +141,7 @@ pub fn fault_of(case: &Case, spoiled: Spoiled) -> Option<String> {
     let told = match check::ours(case, &mut left) {
         Err(fault) => Some(fault),
         Ok(_) if status != 0 => Some(format!("the Rust's process ended, and not for want of memory or stack (status {status})")),
-        Ok(ruled) => match check::rust_side(case, &left, &ruled, spoiled) {
+        Ok(ruled) => match check::verdict(case, &left, &ruled, check::theirs(case), spoiled) {
             Verdict::Fault(fault) => Some(fault),
             _ => None,
         },
