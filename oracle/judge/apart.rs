@@ -3,7 +3,7 @@
 use std::alloc::{GlobalAlloc, Layout, System};
 use std::panic::{AssertUnwindSafe, catch_unwind};
 use std::ptr;
-use std::sync::atomic::{AtomicU64, Ordering::Relaxed};
+use std::sync::atomic::{AtomicBool, AtomicU64, Ordering::Relaxed};
 
 unsafe extern "C" {
     fn fork() -> i32;
@@ -15,7 +15,7 @@ unsafe extern "C" {
     fn dup2(from: i32, to: i32) -> i32;
 }
 
-/// A request for more than this is want of memory: what a machine has beyond it is not to decide what is compared.
+/// A request of the Rust for more than this is want of memory: what a machine has beyond it is not to decide what is compared.
 const MOST_MEMORY: usize = 256 << 20;
 
 /// Why a copy ended, as far as it could still tell.
@@ -23,27 +23,39 @@ const NOTHING: u64 = 0;
 const NO_MEMORY: u64 = 1;
 const PANICKED: u64 = 2;
 
-/// Where the reason goes; null in the first process.
-static REASON: AtomicU64 = AtomicU64::new(NOTHING);
+/// Where the reason goes: an address in the shared page; 0 in the first process.
 static REASON_AT: AtomicU64 = AtomicU64::new(0);
 
+/// Whether memory is limited: while the Rust reads.
+static IS_LIMITED: AtomicBool = AtomicBool::new(false);
+
+/// Notes a reason; want of memory stays one, whatever follows from it.
 fn tell(reason: u64) {
     let at = REASON_AT.load(Relaxed) as *const AtomicU64;
     // SAFETY: it is null, or the address of a word of the shared page
-    unsafe { at.as_ref() }.unwrap_or(&REASON).store(reason, Relaxed);
+    if let Some(word) = unsafe { at.as_ref() }
+        && (word.load(Relaxed) != NO_MEMORY || reason == NOTHING)
+    {
+        word.store(reason, Relaxed);
+    }
 }
 
-/// The system's allocator, with a limit in a copy.
+/// Whether so much memory is refused, which is then the reason if the copy ends.
+fn is_refused(bytes: usize) -> bool {
+    let refused = bytes > MOST_MEMORY && IS_LIMITED.load(Relaxed);
+    if refused {
+        tell(NO_MEMORY);
+    }
+    refused
+}
+
+/// The system's allocator, with a limit for the Rust.
 pub struct Limited;
 
 // SAFETY: it hands on to the system's allocator, or answers that there is no memory
 unsafe impl GlobalAlloc for Limited {
     unsafe fn alloc(&self, layout: Layout) -> *mut u8 {
-        if layout.size() > MOST_MEMORY && REASON_AT.load(Relaxed) != 0 {
-            tell(NO_MEMORY);
-            return ptr::null_mut();
-        }
-        unsafe { System.alloc(layout) }
+        if is_refused(layout.size()) { ptr::null_mut() } else { unsafe { System.alloc(layout) } }
     }
 
     unsafe fn dealloc(&self, at: *mut u8, layout: Layout) {
@@ -51,11 +63,7 @@ unsafe impl GlobalAlloc for Limited {
     }
 
     unsafe fn realloc(&self, at: *mut u8, layout: Layout, size: usize) -> *mut u8 {
-        if size > MOST_MEMORY && REASON_AT.load(Relaxed) != 0 {
-            tell(NO_MEMORY);
-            return ptr::null_mut();
-        }
-        unsafe { System.realloc(at, layout, size) }
+        if is_refused(size) { ptr::null_mut() } else { unsafe { System.realloc(at, layout, size) } }
     }
 }
 
@@ -68,9 +76,13 @@ pub enum End {
     Fault,
 }
 
-/// Runs a part of the work that may panic: a capacity that no memory has counts as want of memory.
+/// Lets the Rust read, with its memory limited. It may panic: a capacity that no memory has is want of memory too.
 pub fn guarded<T>(work: impl FnOnce() -> T) -> Result<T, End> {
-    catch_unwind(AssertUnwindSafe(work)).map_err(|panic| {
+    tell(NOTHING);
+    IS_LIMITED.store(true, Relaxed);
+    let done = catch_unwind(AssertUnwindSafe(work));
+    IS_LIMITED.store(false, Relaxed);
+    done.map_err(|panic| {
         let text = panic.downcast_ref::<String>().map(String::as_str).or(panic.downcast_ref::<&str>().copied());
         if text == Some("capacity overflow") { End::Memory } else { End::Fault }
     })

@@ -1,5 +1,6 @@
-//! The list for the program replay, and what the program is to print of it: the Rust's answers to inputs that are chosen so that under each refusal number every two rules that any input meets
-//! together are met together by one of them, and so for every two widths of operands where a log is accepted; then the smallest inputs that show each difference; then those of oracle/found.txt.
+//! The list for the program replay, and what the program is to print of it: the Rust's answers to inputs that are chosen so that under each refusal
+//! number every two rules that any input meets together are met together by one of them, and so for every two widths of operands where a log is
+//! accepted; then the smallest inputs that show each difference; then those of oracle/found.txt and docs/DIFFERENCES.md.
 use crate::answer::{Answer, bytes_of, hex};
 use crate::apart::{self, End, Page};
 use crate::check::Case;
@@ -21,11 +22,13 @@ const MOST_LINE: usize = 1_000;
 /// Room for an answer's text: touched only as far as it is used.
 const TEXT_WORDS: usize = 1 << 25;
 
+/// The Rust's answer: by its iterators, which tell widths, and by its visitor, which must say the same.
 fn answer(case: &Case) -> String {
-    let Ok(told) = apart::guarded(|| theirs::iterated(&case.input, &case.skip, true)) else {
+    let both = apart::guarded(|| (theirs::iterated(&case.input, &case.skip, true), theirs::visited(&case.input, &case.skip)));
+    let Ok((told, visited)) = both else {
         return Answer::Ended.to_string();
     };
-    assert_eq!(told.clone().without_widths(), theirs::visited(&case.input, &case.skip), "visitor and iterators agree");
+    assert_eq!(told.clone().without_widths(), visited, "visitor and iterators agree");
     told.to_string()
 }
 
@@ -201,11 +204,20 @@ fn found() -> Vec<Entry> {
     text.lines().map(entry).collect()
 }
 
+/// The inputs that docs/DIFFERENCES.md shows (behind `M`, which stands for the magic) and that the list lacks.
+fn documented(known: &[Entry]) -> Vec<Entry> {
+    let text = std::fs::read_to_string("docs/DIFFERENCES.md").expect("docs/DIFFERENCES.md");
+    let known: Vec<&Vec<u8>> = known.iter().filter_map(|entry| if let Entry::Asked(case, _) = entry { Some(&case.input) } else { None }).collect();
+    let digits = text.split("M`").skip(1).filter_map(|rest| rest.split_once('`')).map(|(word, _)| format!("4243c0de{word}"));
+    let inputs = digits.filter_map(|word| bytes_of(&word)).filter(|input| !known.contains(&input));
+    inputs.map(|input| Entry::asked(fixed_stores(Case { input, skip: Vec::new(), events: 0, operands: 0 }))).collect()
+}
+
 const HEAD: &str = "\
 # The answers of llvm-bitcode-rs, as `oracle/run RUST list` writes them. A line is SKIPS BYTES ANSWER: the block numbers to skip, the input, and
 # what the Rust says of it; `ends` where its process ended. First inputs of the stated domain, chosen so that under each refusal number every two
 # rules that are met together are met together in a line here, and every two widths of operands in a line that is accepted. Then the smallest
-# inputs that show each difference, those of oracle/found.txt, and lines that are no question.";
+# inputs that show each difference, those of oracle/found.txt and docs/DIFFERENCES.md, and lines that are no question.";
 
 /// Lines that the program is to tell from questions.
 const NO_QUESTIONS: [&str; 3] = ["8, 4243c0de 0 3737142082 0 0 4 0 0", "- 4243c0d 0 3737142082 0 0 4 0 0", "- 4243c0de"];
@@ -225,6 +237,8 @@ pub fn write(seed: u64, count: u64) -> bool {
     entries.extend(domain(seed, count));
     let inside = entries.len();
     entries.extend(differences(seed).into_iter().chain(found()));
+    let documented = documented(&entries);
+    entries.extend(documented);
     entries.push(Entry::Comment("# No questions".into()));
     entries.extend(NO_QUESTIONS.map(Entry::Other));
     let list: String = entries.iter().map(|entry| entry.line() + "\n").collect();
