@@ -32,10 +32,10 @@ fn answer(case: &Case) -> String {
     told.to_string()
 }
 
-/// The Rust's answer, asked in a copy of the process.
-pub fn rusts(case: &Case) -> String {
+/// The Rust's answer, asked in a copy of the process, and how the copy ended.
+fn asked(case: &Case) -> (String, End) {
     let page = Page::new(TEXT_WORDS);
-    let pid = apart::copy(&page, || {
+    let copy = apart::copy(&page, || {
         let text = answer(case).into_bytes();
         for (i, bytes) in text.chunks(8).enumerate() {
             let mut word = [0; 8];
@@ -44,15 +44,20 @@ pub fn rusts(case: &Case) -> String {
         }
         page.word(0).store(text.len() as u64, Relaxed);
     });
-    let (_, status) = apart::wait(pid.pid);
-    match apart::end_of(&page, status) {
+    let (_, status) = apart::wait(copy.pid);
+    let end = apart::end_of(&page, status);
+    match end {
         End::Done => {}
-        End::Memory | End::Stack => return Answer::Ended.to_string(),
+        End::Memory | End::Stack => return (Answer::Ended.to_string(), end),
         End::Fault => panic!("the Rust's process ended, and not for want of memory or stack: {}", hex(&case.input)),
     }
     let length = page.word(0).load(Relaxed) as usize;
     let words = (0..length.div_ceil(8)).flat_map(|i| page.word(i + 1).load(Relaxed).to_le_bytes());
-    String::from_utf8(words.take(length).collect()).expect("the notation is ASCII")
+    (String::from_utf8(words.take(length).collect()).expect("the notation is ASCII"), end)
+}
+
+pub fn rusts(case: &Case) -> String {
+    asked(case).0
 }
 
 /// Our library's answer.
@@ -116,12 +121,13 @@ fn chosen(seed: u64, count: u64) -> Vec<(u64, Case)> {
     kept
 }
 
-/// Whether an input with the plain magic shows this difference and no other: the Rust answers, and otherwise than ours. No difference: the Rust ends.
+/// Whether an input with the plain magic shows this difference and no other: the Rust answers, and otherwise than ours. No difference: the Rust panics
+/// for a capacity that no machine has.
 fn shows(case: &Case, difference: Option<Difference>) -> bool {
     let left = rules::walk(&case.input, &case.skip, STORE, STORE, 0).notes.left;
     case.input.starts_with(b"BC\xC0\xDE") && left == difference.map_or(0, Difference::bit) && {
-        let rust = rusts(case);
-        (rust == "ends") == difference.is_none() && rust != ours(case)
+        let (rust, end) = asked(case);
+        (rust == "ends") == difference.is_none() && end == End::Done && rust != ours(case)
     }
 }
 

@@ -22,7 +22,7 @@ use walk::Walked;
 ghost use mathlib.Core.Path.{_≡_};
 ghost use mathlib.Core.List.{_++_};
 ghost use lib.ListN.{length};
-ghost use Rattle.text.specs.Text.{Puts, word, items};
+ghost use Rattle.text.specs.Text.{Puts, word};
 ghost use Rattle.text.specs.Dump.{status-line, fields, signature, front, kind as kindOf, head, body, listed, payload, record-text, rest, event-line, event-lines, shown as shownOf, dump};
 
 // The first line: `status=0 place=0 first=0 second=0`.
