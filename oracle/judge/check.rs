@@ -27,13 +27,25 @@ pub enum Verdict {
     Fault(String),
 }
 
-/// What is wrong with the judge on purpose, to see that it finds faults: differences that are not on the list, differences that are not turned the Rust's
-/// way, or a refusal that the Rust names wrongly.
+/// What is wrong on purpose, to see that the judge finds faults: differences that are not on the list, or not turned the Rust's way; a refusal that the
+/// Rust names wrongly; a place of ours that is off by a bit, or a number that ours leaves in its last store.
 #[derive(Clone, Copy, Default)]
 pub struct Spoiled {
     pub missing: u32,
     pub unturned: u32,
     pub misnamed: bool,
+    pub misplaced: bool,
+    pub stained: bool,
+}
+
+impl Spoiled {
+    /// Spoils what our library left.
+    fn spoil(self, left: &mut Left) {
+        left.told[1] += u64::from(self.misplaced && left.told[0] == 9);
+        if let (true, Some(last)) = (self.stained, left.operands.last_mut()) {
+            *last += 1;
+        }
+    }
 }
 
 /// Whether our library left exactly what the rules say, to the last number of both stores.
@@ -48,9 +60,10 @@ fn ours_is_as_ruled(left: &Left, ruled: &Outcome, case: &Case) -> bool {
 }
 
 /// Our library's answer, if it is as 01's rules have it; and what the rules noted.
-pub fn ours(case: &Case, left: &mut Left) -> Result<Outcome, String> {
+pub fn ours(case: &Case, left: &mut Left, spoiled: Spoiled) -> Result<Outcome, String> {
     let ruled = rules::walk(&case.input, &case.skip, case.events, case.operands, 0);
     left.walk(&case.input, &case.skip, case.events, case.operands);
+    spoiled.spoil(left);
     if ours_is_as_ruled(left, &ruled, case) {
         return Ok(ruled);
     }

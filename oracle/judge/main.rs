@@ -3,7 +3,7 @@
 //! ```text
 //! judge run [SEED [COUNT]]     the comparison: every input of up to two bytes behind the magic, the test bench's questions, large inputs, and
 //!                              COUNT generated ones; the first fault is shrunk and shown
-//! judge spoil [SEED]           that the judge can fail: each line of the list taken out, each not turned the Rust's way, a refusal misnamed
+//! judge spoil [SEED]           that the judge can fail: each line of the list taken out, each not turned the Rust's way, wrong answers of both readers
 //! judge calls                  single calls of cursor and typed operands: the questions of the program probe, asked of the Rust
 //! judge list [SEED [COUNT]]    writes the list for the program replay, and what it is to print of it
 //! judge show FILE ..           both answers to each file
@@ -127,7 +127,9 @@ fn finds(name: &str, seed: u64, spoiled: Spoiled) -> bool {
 }
 
 fn spoil(seed: u64) -> bool {
-    let mut sound = finds("a refusal misnamed", seed, Spoiled { misnamed: true, ..Spoiled::default() });
+    let mut sound = finds("a refusal misnamed by the Rust", seed, Spoiled { misnamed: true, ..Spoiled::default() })
+        & finds("a place of ours off by a bit", seed, Spoiled { misplaced: true, ..Spoiled::default() })
+        & finds("a number left in a store of ours", seed, Spoiled { stained: true, ..Spoiled::default() });
     for (difference, name) in Difference::ALL.iter().filter(|(difference, _)| *difference != Difference::InputLimit) {
         sound &= finds(&format!("not on the list: {name}"), seed, Spoiled { missing: difference.bit(), ..Spoiled::default() });
         sound &= finds(&format!("not turned: {name}"), seed, Spoiled { unturned: difference.bit(), ..Spoiled::default() });

@@ -41,7 +41,7 @@ fn bump(page: &Page, word: usize) {
 
 /// Holds one input against everything, and counts it; whether there was no fault.
 fn judge(page: &Page, case: &Case, left: &mut Left, spoiled: Spoiled) -> bool {
-    let Ok(ruled) = check::ours(case, left) else {
+    let Ok(ruled) = check::ours(case, left, spoiled) else {
         return false;
     };
     page.word(RULES_LOW).fetch_or(ruled.notes.rules as u64, Relaxed);
@@ -138,7 +138,7 @@ pub fn fault_of(case: &Case, spoiled: Spoiled) -> Option<String> {
         return None;
     }
     let mut left = Left::default();
-    let told = match check::ours(case, &mut left) {
+    let told = match check::ours(case, &mut left, spoiled) {
         Err(fault) => Some(fault),
         Ok(_) if status != 0 => Some(format!("the Rust's process ended, and not for want of memory or stack (status {status})")),
         Ok(ruled) => match check::verdict(case, &left, &ruled, check::theirs(case), spoiled) {
