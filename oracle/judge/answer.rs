@@ -9,6 +9,7 @@
 //!   skip     ~BLOCK
 //! ended:     ends                                      the reader's process ended
 //! ```
+use crate::stream::WRAPPER;
 use std::fmt;
 
 #[derive(Clone, Debug, PartialEq)]
@@ -66,7 +67,6 @@ impl Sheet<'_> {
 
     /// The bytes behind the header: a blob's place counts from there.
     fn stream(&self) -> &[u8] {
-        const WRAPPER: u64 = 0x0B17_C0DE;
         let [magic, _, _, offset, size, _] = self.header();
         if magic == WRAPPER { &self.input[offset as usize + 4..(offset + size) as usize] } else { &self.input[4..] }
     }
@@ -105,7 +105,8 @@ impl Sheet<'_> {
     }
 }
 
-fn commas(numbers: &[u64]) -> String {
+/// Numbers with commas between them.
+pub fn commas(numbers: &[u64]) -> String {
     numbers.iter().map(u64::to_string).collect::<Vec<_>>().join(",")
 }
 

@@ -123,13 +123,8 @@ impl Drop for Page {
     }
 }
 
-/// A copy that is at work.
-pub struct Copy {
-    pub pid: i32,
-}
-
-/// Starts a copy that does this work and ends. What it says on its error output is left out.
-pub fn copy(page: &Page, work: impl FnOnce()) -> Copy {
+/// Starts a copy that does this work and ends, and tells its process number. What it says on its error output is left out.
+pub fn copy(page: &Page, work: impl FnOnce()) -> i32 {
     page.reason().store(NOTHING, Relaxed);
     // SAFETY: the process has one thread here
     let pid = unsafe { fork() };
@@ -147,10 +142,10 @@ pub fn copy(page: &Page, work: impl FnOnce()) -> Copy {
         // SAFETY: it ends the copy, and nothing of the first process
         unsafe { _exit(if done { 0 } else { 3 }) };
     }
-    Copy { pid }
+    pid
 }
 
-/// Waits for any copy: its process number, and how it ended.
+/// Waits for a copy, for any where the number is -1: its process number, and its status.
 pub fn wait(pid: i32) -> (i32, i32) {
     let mut status = 0;
     // SAFETY: `status` is there to be written

@@ -1,5 +1,5 @@
 //! One input, held against everything: our library against 01's rules, the Rust against ours in the stated domain, and outside of it against the list.
-use crate::answer::Answer;
+use crate::answer::{Answer, commas, hex};
 use crate::apart::{End, guarded};
 use crate::notes::{Difference, RUSTS};
 use crate::ours::Left;
@@ -13,6 +13,18 @@ pub struct Case {
     pub skip: Vec<u64>,
     pub events: usize,
     pub operands: usize,
+}
+
+impl Case {
+    /// The block numbers to skip with commas between them, `-` for none.
+    pub fn skip_text(&self) -> String {
+        if self.skip.is_empty() { "-".into() } else { commas(&self.skip) }
+    }
+
+    /// The input in hex digits, `-` for none.
+    pub fn input_text(&self) -> String {
+        if self.input.is_empty() { "-".into() } else { hex(&self.input) }
+    }
 }
 
 /// How a case came out.

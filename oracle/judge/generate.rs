@@ -1,9 +1,9 @@
 //! Inputs: logs with nested blocks, every kind and width of operand, BLOCKINFO, wrappers, overlong numbers, wrong lengths and limits from both sides,
 //! some sound and some with faults, and damaged copies of them. The number of an input and the seed decide it.
 use crate::check::Case;
-use crate::maker::{Maker, Op, Rng, TOP};
+use crate::maker::{Maker, Op, Rng};
 use crate::rules;
-use crate::stream::Bits;
+use crate::stream::{Bits, MAGIC, TOP, WRAPPER};
 
 type Kind = fn(&mut Rng) -> Bits;
 
@@ -351,7 +351,7 @@ const KINDS: [Kind; 42] = [
 
 /// The magic before the stream, or a wrapper around both, good or bad.
 fn wrap(rng: &mut Rng, stream: &[u8]) -> Vec<u8> {
-    let magic = if rng.chance(40) { (rng.next() as u32).to_le_bytes() } else { *b"BC\xC0\xDE" };
+    let magic = if rng.chance(40) { (rng.next() as u32).to_le_bytes() } else { MAGIC };
     let plain = [&magic, stream].concat();
     if !rng.chance(80) {
         return plain;
@@ -369,7 +369,7 @@ fn wrap(rng: &mut Rng, stream: &[u8]) -> Vec<u8> {
         }
         _ => {}
     }
-    let words = [0x0B17_C0DE, rng.below(3), offset, size, rng.next()].map(|word| (word as u32).to_le_bytes());
+    let words = [WRAPPER, rng.below(3), offset, size, rng.next()].map(|word| (word as u32).to_le_bytes());
     let mut input = [words.concat(), vec![0; before as usize], plain, behind].concat();
     if fault == 3 {
         input.truncate(rng.below(24) as usize);

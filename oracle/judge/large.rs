@@ -1,12 +1,11 @@
 //! Inputs at the ends of what a walk is built for, which no generator reaches: long, deep, and with very many of one thing.
 use crate::check::Case;
-use crate::stream::Bits;
+use crate::stream::{Bits, MAGIC};
 
 const MOST: usize = 16_777_216;
-const MAGIC: &[u8] = b"BC\xC0\xDE";
 
 fn case(stream: Bits, events: usize, operands: usize) -> Case {
-    Case { input: [MAGIC, &stream.into_bytes()].concat(), skip: Vec::new(), events, operands }
+    Case { input: [&MAGIC, &stream.into_bytes()[..]].concat(), skip: Vec::new(), events, operands }
 }
 
 /// A block around a body.

@@ -9,6 +9,7 @@ use crate::notes::{Difference, RULES, Rule};
 use crate::ours::Left;
 use crate::rules;
 use crate::shrink::shrink;
+use crate::stream::MAGIC;
 use crate::{TINY, theirs, tiny};
 use std::sync::atomic::Ordering::Relaxed;
 
@@ -25,8 +26,10 @@ const TEXT_WORDS: usize = 1 << 25;
 /// The Rust's answer: by its iterators, which tell widths, and by its visitor, which must say the same.
 fn answer(case: &Case) -> String {
     let both = apart::guarded(|| (theirs::iterated(&case.input, &case.skip, true), theirs::visited(&case.input, &case.skip)));
-    let Ok((told, visited)) = both else {
-        return Answer::Ended.to_string();
+    let (told, visited) = match both {
+        Ok(both) => both,
+        Err(End::Memory) => return Answer::Ended.to_string(),
+        Err(end) => panic!("the Rust panics, and not for want of memory: {end:?}"),
     };
     assert_eq!(told.clone().without_widths(), visited, "visitor and iterators agree");
     told.to_string()
@@ -35,7 +38,7 @@ fn answer(case: &Case) -> String {
 /// The Rust's answer, asked in a copy of the process, and how the copy ended.
 fn asked(case: &Case) -> (String, End) {
     let page = Page::new(TEXT_WORDS);
-    let copy = apart::copy(&page, || {
+    let pid = apart::copy(&page, || {
         let text = answer(case).into_bytes();
         for (i, bytes) in text.chunks(8).enumerate() {
             let mut word = [0; 8];
@@ -44,7 +47,7 @@ fn asked(case: &Case) -> (String, End) {
         }
         page.word(0).store(text.len() as u64, Relaxed);
     });
-    let (_, status) = apart::wait(copy.pid);
+    let (_, status) = apart::wait(pid);
     let end = apart::end_of(&page, status);
     match end {
         End::Done => {}
@@ -98,9 +101,7 @@ fn fixed_stores(mut case: Case) -> Case {
 }
 
 fn line(case: &Case, answer: &str) -> String {
-    let skips: Vec<String> = case.skip.iter().map(u64::to_string).collect();
-    let word = |text: String| if text.is_empty() { "-".into() } else { text };
-    format!("{} {} {answer}", word(skips.join(",")), word(hex(&case.input)))
+    format!("{} {} {answer}", case.skip_text(), case.input_text())
 }
 
 /// The inputs of the stated domain, with their status.
@@ -125,7 +126,7 @@ fn chosen(seed: u64, count: u64) -> Vec<(u64, Case)> {
 /// for a capacity that no machine has.
 fn shows(case: &Case, difference: Option<Difference>) -> bool {
     let left = rules::walk(&case.input, &case.skip, STORE, STORE, 0).notes.left;
-    case.input.starts_with(b"BC\xC0\xDE") && left == difference.map_or(0, Difference::bit) && {
+    case.input.starts_with(&MAGIC) && left == difference.map_or(0, Difference::bit) && {
         let (rust, end) = asked(case);
         (rust == "ends") == difference.is_none() && end == End::Done && rust != ours(case)
     }

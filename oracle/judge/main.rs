@@ -25,12 +25,13 @@ mod shrink;
 mod stream;
 mod theirs;
 
-use answer::{bytes_of, hex};
+use answer::bytes_of;
 use check::{Case, Spoiled};
 use notes::Difference;
 use run::{Counts, Inputs};
 use std::process::ExitCode;
 use std::time::Instant;
+use stream::MAGIC;
 
 #[global_allocator]
 static MEMORY: apart::Limited = apart::Limited;
@@ -39,6 +40,9 @@ const SEED: u64 = 20_261_115;
 const COUNT: u64 = 5_000_000;
 const LISTED: u64 = 2_000_000;
 
+/// The most bytes of an input that is shown and shrunk.
+const MOST_SHOWN: usize = 4096;
+
 /// Every input of up to two bytes behind the magic, by number.
 fn tiny(index: u64) -> Case {
     let behind: &[u8] = match index {
@@ -46,7 +50,7 @@ fn tiny(index: u64) -> Case {
         1..=256 => &[(index - 1) as u8],
         _ => &((index - 257) as u16).to_le_bytes(),
     };
-    Case { input: [b"BC\xC0\xDE", behind].concat(), skip: Vec::new(), events: 64, operands: 64 }
+    Case { input: [&MAGIC, behind].concat(), skip: Vec::new(), events: 64, operands: 64 }
 }
 
 const TINY: u64 = 1 + 256 + 65_536;
@@ -65,10 +69,8 @@ fn skips_of(word: &str) -> Option<Vec<u64>> {
 }
 
 fn show_case(case: &Case) {
-    let skips: Vec<String> = case.skip.iter().map(u64::to_string).collect();
-    let skips = if skips.is_empty() { "-".into() } else { skips.join(",") };
-    let input = if case.input.len() > 4096 { format!("({} bytes)", case.input.len()) } else { hex(&case.input) };
-    println!("  skips {skips}, stores of {} and {} numbers, input {input}", case.events, case.operands);
+    let input = if case.input.len() > MOST_SHOWN { format!("({} bytes)", case.input.len()) } else { case.input_text() };
+    println!("  skips {}, stores of {} and {} numbers, input {input}", case.skip_text(), case.events, case.operands);
 }
 
 /// Shows a fault, and the smallest input near it that shows one too.
@@ -79,7 +81,7 @@ fn show_fault(case: Case, spoiled: Spoiled) {
     };
     println!("FAULT");
     tell(&case);
-    if case.input.len() <= 4096 {
+    if case.input.len() <= MOST_SHOWN {
         println!("shrunk:");
         tell(&shrink::shrink(case, |case| run::fault_of(case, spoiled).is_some()));
     }

@@ -1,5 +1,5 @@
 //! Makes logs item by item: sound ones, and ones with faults put in.
-use crate::stream::Bits;
+use crate::stream::{Bits, TOP};
 use std::collections::HashMap;
 
 pub struct Rng(u64);
@@ -45,7 +45,6 @@ pub enum Op {
     Raw(u64),
 }
 
-pub const TOP: u64 = 0xFFFF_FFFF;
 const NUMBERS: [u64; 12] = [8, 8, 8, 9, 9, 10, 1, 7, 0x7FFF_FFFF, TOP - 1, TOP, 17];
 const WIDTHS: [u64; 12] = [2, 3, 3, 3, 4, 4, 5, 6, 8, 13, 31, 32];
 

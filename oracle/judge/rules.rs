@@ -3,7 +3,7 @@
 //! of it against the list: what the list doesn't say is a fault.
 use crate::answer::{Answer, Sheet};
 use crate::notes::{Difference, Notes, Rule};
-use crate::stream::{Cursor, Got, Refusal, refuse};
+use crate::stream::{Cursor, Got, Refusal, TOP, WRAPPER, refuse};
 use std::rc::Rc;
 
 #[derive(Clone, Copy, PartialEq)]
@@ -12,6 +12,18 @@ pub enum Scalar {
     Fixed(u64),
     Vbr(u64),
     Char6,
+}
+
+impl Scalar {
+    /// The one of four rules that is for this kind: literal, fixed, VBR, Char6.
+    fn of(self, rules: [Rule; 4]) -> Rule {
+        match self {
+            Self::Literal(_) => rules[0],
+            Self::Fixed(_) => rules[1],
+            Self::Vbr(_) => rules[2],
+            Self::Char6 => rules[3],
+        }
+    }
 }
 
 enum Load {
@@ -58,8 +70,6 @@ impl Outcome {
 /// The build's own limits.
 const INPUT_LIMIT: usize = 16_777_216;
 const LIMIT: usize = 32; // open blocks; operands per abbreviation; shared abbreviations; local ones
-const WRAPPER: u64 = 0x0B17_C0DE;
-const TOP: u64 = 0xFFFF_FFFF;
 const TWO32: u64 = 1 << 32;
 
 fn word(bytes: &[u8]) -> u64 {
@@ -197,12 +207,7 @@ impl Walk<'_> {
         let element = self.define_operand(c, 0);
         match element {
             Ok(Defined::Scalar(kind)) => {
-                self.notes.met(match kind {
-                    Scalar::Literal(_) => Rule::LiteralElement,
-                    Scalar::Fixed(_) => Rule::FixedElement,
-                    Scalar::Vbr(_) => Rule::VbrElement,
-                    Scalar::Char6 => Rule::Char6Element,
-                });
+                self.notes.met(kind.of([Rule::LiteralElement, Rule::FixedElement, Rule::VbrElement, Rule::Char6Element]));
                 Ok(kind)
             }
             Ok(Defined::Load(_)) => {
@@ -218,10 +223,7 @@ impl Walk<'_> {
 
     fn note_defined(&mut self, operand: &Defined) {
         self.notes.met(match operand {
-            Defined::Scalar(Scalar::Literal(_)) => Rule::LiteralDefined,
-            Defined::Scalar(Scalar::Fixed(_)) => Rule::FixedDefined,
-            Defined::Scalar(Scalar::Vbr(_)) => Rule::VbrDefined,
-            Defined::Scalar(Scalar::Char6) => Rule::Char6Defined,
+            Defined::Scalar(kind) => kind.of([Rule::LiteralDefined, Rule::FixedDefined, Rule::VbrDefined, Rule::Char6Defined]),
             Defined::Load(Load::Array(_)) => Rule::ArrayDefined,
             Defined::Load(Load::Blob) => Rule::BlobDefined,
         });
@@ -350,23 +352,13 @@ impl Walk<'_> {
             return refuse(5);
         };
         let code = self.scalar(c, first);
-        self.notes.met(match first {
-            _ if code.is_err() => Rule::CodeCut,
-            Scalar::Literal(_) => Rule::CodeLiteral,
-            Scalar::Fixed(_) => Rule::CodeFixed,
-            Scalar::Vbr(_) => Rule::CodeVbr,
-            Scalar::Char6 => Rule::CodeChar6,
-        });
+        let read = first.of([Rule::CodeLiteral, Rule::CodeFixed, Rule::CodeVbr, Rule::CodeChar6]);
+        self.notes.met(if code.is_err() { Rule::CodeCut } else { read });
         let (code, place) = (code?, self.operands.len());
         for &kind in rest {
             let operand = self.operand(c, kind);
-            self.notes.met(match kind {
-                _ if operand.is_err() => Rule::OperandCut,
-                Scalar::Literal(_) => Rule::LiteralOperand,
-                Scalar::Fixed(_) => Rule::FixedOperand,
-                Scalar::Vbr(_) => Rule::VbrOperand,
-                Scalar::Char6 => Rule::Char6Operand,
-            });
+            let read = kind.of([Rule::LiteralOperand, Rule::FixedOperand, Rule::VbrOperand, Rule::Char6Operand]);
+            self.notes.met(if operand.is_err() { Rule::OperandCut } else { read });
             operand?;
         }
         let count = self.operands.len() - place;

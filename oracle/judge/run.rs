@@ -99,7 +99,7 @@ fn goes_on(page: &Page, status: i32) -> bool {
 /// Goes through all inputs, up to the first fault that each copy finds.
 pub fn run(inputs: &Inputs, spoiled: Spoiled) -> Counts {
     let pages: Vec<Page> = (0..COPIES).map(|_| Page::new(WORDS)).collect();
-    let start = |page: &Page| apart::copy(page, || work(page, inputs, spoiled)).pid;
+    let start = |page: &Page| apart::copy(page, || work(page, inputs, spoiled));
     let mut pids = Vec::new();
     for (first, page) in pages.iter().enumerate() {
         page.word(NEXT).store(first as u64, Relaxed);
@@ -131,7 +131,7 @@ fn counted(pages: &[Page]) -> Counts {
 pub fn fault_of(case: &Case, spoiled: Spoiled) -> Option<String> {
     let page = Page::new(WORDS);
     let inputs = Inputs { count: 1, case: &|_| case.clone() };
-    let pid = apart::copy(&page, || work(&page, &inputs, spoiled)).pid;
+    let pid = apart::copy(&page, || work(&page, &inputs, spoiled));
     let (_, status) = apart::wait(pid);
     goes_on(&page, status);
     if page.word(FAULTY).load(Relaxed) == 0 {

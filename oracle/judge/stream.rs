@@ -1,6 +1,11 @@
 //! Bits of a stream: a cursor that reads them as document 01 says, and a writer that makes them.
 use crate::notes::{Difference, Notes, Rule};
 
+/// The magic of LLVM's bitcode, as bytes; that of a wrapper, as a word; and the number of the top level.
+pub const MAGIC: [u8; 4] = *b"BC\xC0\xDE";
+pub const WRAPPER: u64 = 0x0B17_C0DE;
+pub const TOP: u64 = 0xFFFF_FFFF;
+
 /// A refusal: its number and its two details.
 #[derive(Clone, Copy, Debug, PartialEq)]
 pub struct Refusal(pub u64, pub u64, pub u64);
