@@ -1,3 +1,5 @@
 pub mod Front
 pub mod Call
+pub mod Parts
+pub mod Typed
 pub mod Once

@@ -1,0 +1,28 @@
+-- `gleanrime::gleanrime_signed` meets its contract: what `Operands::i64` gives, or 0. Assumes nothing.
+use native.Mathlib.Omega.{arith}
+use Rattle.gleanrime.proofs.Typed.{same-signed, refused-so, got-so}
+use borrow.Author.Needs.{needs}
+use Rattle.gleanrime.proofs.gleanrime_signed.Statement.{statement}
+use Rattle.gleanrime.proofs.gleanrime_signed.Tie as tie
+
+new-requires : tie.Need-new-requires
+new-requires c κs = search needs
+
+i64-requires : tie.Need-i64-requires
+i64-requires c κs = search needs
+
+enum-known-e : tie.Need-enum-known-e
+enum-known-e c = search needs
+
+enum-known-v : tie.Need-enum-known-v
+enum-known-v c = search needs
+
+returns : tie.Need-returns
+returns c = refused-so _ (c .before .before .before .before .before .before .args .operands .now) _ _ _ _ (c .before .before .before .before .new .ensures) (omega arith) (same-signed _) (rw (c .before .e .given .1) at (c .before .before .before .i64 .ensures))
+
+returns-2 : tie.Need-returns-2
+returns-2 c = got-so _ (c .before .before .before .before .before .before .args .operands .now) _ _ _ _ (c .before .before .before .before .new .ensures) (omega arith) (same-signed _) (rw (c .before .v .given .1) at (c .before .before .before .i64 .ensures))
+
+pub gleanrime-signed-spec : {M : Type 1} → statement M
+gleanrime-signed-spec =
+    tie.close (tie.spec new-requires i64-requires enum-known-e enum-known-v returns returns-2)
