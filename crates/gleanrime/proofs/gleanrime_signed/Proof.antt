@@ -1,4 +1,6 @@
 -- `gleanrime::gleanrime_signed` meets its contract: what `Operands::i64` gives, or 0. Assumes nothing.
+use mir.Syntax.{w64}
+use mir.ValLaws.{toZ-ofZ}
 use native.Mathlib.Omega.{arith}
 use Rattle.gleanrime.proofs.Typed.{same-signed, refused-so, got-so}
 use borrow.Author.Needs.{needs}
@@ -21,7 +23,9 @@ returns : tie.Need-returns
 returns c = refused-so _ (c .before .before .before .before .before .before .args .operands .now) _ _ _ _ (c .before .before .before .before .new .ensures) (omega arith) (same-signed _) (rw (c .before .e .given .1) at (c .before .before .before .i64 .ensures))
 
 returns-2 : tie.Need-returns-2
-returns-2 c = got-so _ (c .before .before .before .before .before .before .args .operands .now) _ _ _ _ (c .before .before .before .before .new .ensures) (omega arith) (same-signed _) (rw (c .before .v .given .1) at (c .before .before .before .i64 .ensures))
+returns-2 c =
+    rw (toZ-ofZ w64 (c .before .v .given .0 .0) (record { sfits = c .known-told2 .given .0 .1 }))
+    (got-so _ (c .before .before .before .before .before .before .args .operands .now) _ _ _ _ (c .before .before .before .before .new .ensures) (omega arith) (same-signed _) (rw (c .before .v .given .1) at (c .before .before .before .i64 .ensures)))
 
 pub gleanrime-signed-spec : {M : Type 1} → statement M
 gleanrime-signed-spec =
