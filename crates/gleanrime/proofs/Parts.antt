@@ -1,16 +1,16 @@
--- Where the stream, and a blob in it, lies in the caller's input; and the exported calls for the header, of what `Signature::parse` says. Assumes nothing.
+-- Where the stream, and a blob in it, lies in the caller's input; and the exported calls for the header and a blob's place, of what the calls of
+-- `bitcode` say. Assumes nothing.
 use mathlib.Core.Bool.{Bool, true, false}
 use mathlib.Core.Path.{_≡_, refl, sym, ap, _∙_}
 use mathlib.Core.List.{List, [], _∷_}
 use Prim.Native.Nat.{ℕ, _+_, _-_, _≤_, _<_, zero-le}
 use native.Mathlib.Omega.{arith}
-use lib.ListN.{length, take, drop, length-take, length-drop}
+use lib.ListN.{length, take, drop, length-drop}
 use lib.Seq.{length-take-le, take-take, drop-drop}
 use lib.Dec.{leb, eqb}
 use borrow.Author.Tests.{le-leb, lt-leb, leb-true, leb-false, eq-eqb, ne-eqb, eqb-true, eqb-false}
 use Rattle.bits.specs.Reader.{if_then_else_}
 use Rattle.bitcode.specs.declared.Signature.{Signature}
-use Rattle.bitcode.specs.declared.Parsed.{Parsed}
 use Rattle.bitcode.specs.declared.Parsed.the-variants.{Signed, Refused}
 use Rattle.bitcode.specs.Header.{Opened, unsigned, opened, wrapper-magic, signature, parsed, stream, bytes-of, blob-of}
 use Rattle.bitcode.proofs.Headers.{Opens, signature-opens, part-of, rest-of, bytes-outside, bytes-inside}
@@ -45,6 +45,7 @@ stream-lies bs = go (signature bs) refl
         (w .behind ∙ sym (part-of (h .offset + 4) (h .offset + h .size) bs))
     by h t o false i =
         lies-part bs t 4 (length bs - 4) (omega (arith, o .some)) (o .plain (eqb-false _ _ i) ∙ sym (rest-of 4 bs))
+
     go : (o : Opened) → signature bs ≡ o → Lies bs (stream o) (stream-from o)
     go unsigned i = record { inside = zero-le; part = refl }
     go (opened h t) i = by h t (signature-opens bs h t i) (eqb (h .magic) wrapper-magic) refl

@@ -186,8 +186,8 @@ pub extern "C" fn gleanrime_signed(operands: &[u64], first: u64, count: u64, val
     *value = 0;
     match Operands::new(first, count).i64(operands) {
         NextI64::Refused(e) => e,
-        NextI64::Value(v, _) => {
-            *value = v;
+        NextI64::Value(n, _) => {
+            *value = n;
             0
         }
     }

@@ -1,7 +1,6 @@
 -- `gleanrime::gleanrime_range` meets its contract: what `Operands::range` gives, or zeros. Assumes nothing.
 use native.Mathlib.Omega.{arith}
-use Rattle.gleanrime.proofs.Typed.{same-range, refused-so, got-so}
-use Rattle.gleanrime.specs.Operands.{no-range}
+use Rattle.gleanrime.proofs.Typed.{range-refused, range-got}
 use borrow.Author.Needs.{needs}
 use Rattle.gleanrime.proofs.gleanrime_range.Statement.{statement}
 use Rattle.gleanrime.proofs.gleanrime_range.Tie as tie
@@ -20,13 +19,13 @@ enum-known-v c = search needs
 
 returns : tie.Need-returns
 returns c =
-    let x = refused-so _ (c .before .before .before .before .before .before .args .operands .now) _ _ _ no-range (c .before .before .before .before .new .ensures) (omega arith) (same-range _) (rw (c .before .e .given .1) at (c .before .before .before .range .ensures)) in
-    (x .0, (rw (← x .1), rw (← x .1)))
+    let s = c .before .before .before .before .before .before .args .operands .now in
+    range-refused s _ _ _ (c .before .before .before .before .new .ensures) (omega arith) (rw (c .before .e .given .1) at (c .before .before .before .range .ensures))
 
 returns-2 : tie.Need-returns-2
 returns-2 c =
-    let x = got-so _ (c .before .before .before .before .before .before .args .operands .now) _ _ _ no-range (c .before .before .before .before .new .ensures) (omega arith) (same-range _) (rw (c .before .v .given .1) at (c .before .before .before .range .ensures)) in
-    (x .0, (rw (← x .1), rw (← x .1)))
+    let s = c .before .before .before .before .before .before .args .operands .now in
+    range-got s _ _ _ (c .before .before .before .before .new .ensures) (omega arith) (rw (c .before .v .given .1) at (c .before .before .before .range .ensures))
 
 pub gleanrime-range-spec : {M : Type 1} → statement M
 gleanrime-range-spec =

@@ -2,7 +2,7 @@
 use mir.Syntax.{w64}
 use mir.ValLaws.{toZ-ofZ}
 use native.Mathlib.Omega.{arith}
-use Rattle.gleanrime.proofs.Typed.{same-signed, refused-so, got-so}
+use Rattle.gleanrime.proofs.Typed.{signed-refused, signed-got}
 use borrow.Author.Needs.{needs}
 use Rattle.gleanrime.proofs.gleanrime_signed.Statement.{statement}
 use Rattle.gleanrime.proofs.gleanrime_signed.Tie as tie
@@ -16,17 +16,20 @@ i64-requires c κs = search needs
 enum-known-e : tie.Need-enum-known-e
 enum-known-e c = search needs
 
-enum-known-v : tie.Need-enum-known-v
-enum-known-v c = search needs
+enum-known-n : tie.Need-enum-known-n
+enum-known-n c = search needs
 
 returns : tie.Need-returns
-returns c = refused-so _ (c .before .before .before .before .before .before .args .operands .now) _ _ _ _ (c .before .before .before .before .new .ensures) (omega arith) (same-signed _) (rw (c .before .e .given .1) at (c .before .before .before .i64 .ensures))
+returns c =
+    let s = c .before .before .before .before .before .before .args .operands .now in
+    signed-refused s _ _ _ (c .before .before .before .before .new .ensures) (omega arith) (rw (c .before .e .given .1) at (c .before .before .before .i64 .ensures))
 
 returns-2 : tie.Need-returns-2
 returns-2 c =
-    rw (toZ-ofZ w64 (c .before .v .given .0 .0) (record { sfits = c .known-told2 .given .0 .1 }))
-    (got-so _ (c .before .before .before .before .before .before .args .operands .now) _ _ _ _ (c .before .before .before .before .new .ensures) (omega arith) (same-signed _) (rw (c .before .v .given .1) at (c .before .before .before .i64 .ensures)))
+    let s = c .before .before .before .before .before .before .args .operands .now in
+    rw (toZ-ofZ w64 (c .before .n .given .0 .0) (record { sfits = c .known-told2 .given .0 .1 }))
+    (signed-got s _ _ _ (c .before .before .before .before .new .ensures) (omega arith) (rw (c .before .n .given .1) at (c .before .before .before .i64 .ensures)))
 
 pub gleanrime-signed-spec : {M : Type 1} → statement M
 gleanrime-signed-spec =
-    tie.close (tie.spec new-requires i64-requires enum-known-e enum-known-v returns returns-2)
+    tie.close (tie.spec new-requires i64-requires enum-known-e enum-known-n returns returns-2)

@@ -1,9 +1,8 @@
 -- `gleanrime::gleanrime_unsigned` meets its contract: what `Operands::u64` gives, behind the test of its width, or 0. Assumes nothing.
-use mathlib.Core.Path.{refl, sym, _∙_}
-use borrow.Author.Tests.{ltb-true, ltb-false}
-use Rattle.bitcode.proofs.Typed.{below-off, below-fits, below-over}
+use mathlib.Core.Path.{sym, _∙_}
 use native.Mathlib.Omega.{arith}
-use Rattle.gleanrime.proofs.Typed.{same-below, refused-so, got-so}
+use borrow.Author.Tests.{ltb-true, ltb-false}
+use Rattle.gleanrime.proofs.Typed.{unsigned-refused, unsigned-got, unsigned-over}
 use borrow.Author.Needs.{needs}
 use Rattle.gleanrime.proofs.gleanrime_unsigned.Statement.{statement}
 use Rattle.gleanrime.proofs.gleanrime_unsigned.Tie as tie
@@ -24,13 +23,21 @@ fits-requires : tie.Need-fits-requires
 fits-requires c κs = search needs
 
 returns : tie.Need-returns
-returns c = got-so _ (c .before .before .before .before .before .before .before .before .args .operands .now) _ _ _ _ (c .before .before .before .before .before .before .new .ensures) (omega arith) (λ e d h. same-below _ e d h _) (below-fits _ (rw (c .before .before .before .v .given .1) at (c .before .before .before .before .before .u64 .ensures)) refl (ltb-true _ _ (sym (c .before .fits2 .ensures) ∙ c .if1 .taken)))
+returns c =
+    let s = c .before .before .before .before .before .before .before .before .args .operands .now in
+    unsigned-got s _ _ _ (c .before .before .before .before .before .before .new .ensures) (omega arith) _
+    (rw (c .before .before .before .v .given .1) at (c .before .before .before .before .before .u64 .ensures)) (ltb-true _ _ (sym (c .before .fits2 .ensures) ∙ c .if1 .taken))
 
 returns-2 : tie.Need-returns-2
-returns-2 c = refused-so _ (c .before .before .before .before .before .before .args .operands .now) _ _ _ _ (c .before .before .before .before .new .ensures) (omega arith) (λ e d h. same-below _ e d h _) (below-off _ (rw (c .before .e .given .1) at (c .before .before .before .u64 .ensures)))
+returns-2 c =
+    let s = c .before .before .before .before .before .before .args .operands .now in
+    unsigned-refused s _ _ _ (c .before .before .before .before .new .ensures) (omega arith) _ (rw (c .before .e .given .1) at (c .before .before .before .u64 .ensures))
 
 returns-3 : tie.Need-returns-3
-returns-3 c = refused-so _ (c .before .before .before .before .before .before .before .before .args .operands .now) _ _ _ _ (c .before .before .before .before .before .before .new .ensures) (omega arith) (λ e d h. same-below _ e d h _) (below-over _ (rw (c .before .before .before .v .given .1) at (c .before .before .before .before .before .u64 .ensures)) refl (ltb-false _ _ (sym (c .before .fits2 .ensures) ∙ c .if1 .left)))
+returns-3 c =
+    let s = c .before .before .before .before .before .before .before .before .args .operands .now in
+    unsigned-over s _ _ _ (c .before .before .before .before .before .before .new .ensures) (omega arith) _
+    (rw (c .before .before .before .v .given .1) at (c .before .before .before .before .before .u64 .ensures)) (ltb-false _ _ (sym (c .before .fits2 .ensures) ∙ c .if1 .left))
 
 pub gleanrime-unsigned-spec : {M : Type 1} → statement M
 gleanrime-unsigned-spec =
