@@ -30,8 +30,8 @@ lies-part bs t a n h e =
 -- a part of a part
 part-lies : (bs t : List ℕ) (a place n : ℕ) → Lies bs t a → place + n ≤ length t → take n (drop (a + place) bs) ≡ take n (drop place t)
 part-lies bs t a place n l h =
-    rw (l .part)
-    (rw (← drop-drop place a bs, ← take-take n (length t - place) (drop place (drop a bs)) (omega arith)) (ap (take n) (part-of place (length t) (drop a bs))))
+    let rest = drop place (drop a bs) in
+    rw (l .part, ← drop-drop place a bs, ← take-take n (length t - place) rest (omega arith)) (ap (take n) (part-of place (length t) (drop a bs)))
 
 -- ---- the stream
 pub stream-lies : (bs : List ℕ) → Lies bs (stream (signature bs)) (stream-from (signature bs))
@@ -59,7 +59,8 @@ module _ (bs : List ℕ) (place n : ℕ) where
   pub blob-inside : (a : ℕ) → a ≡ stream-from (signature bs) → place + n ≤ length (stream (signature bs)) → ReturnsBlob bs place n n (a + place)
   unfolding blob-size blob-from blob-of if_then_else_
   blob-inside a e h =
-      (rw (bytes-inside _ place n h) (sym (length-take-le n (drop place (stream (signature bs))) (rw length-drop (omega arith)))), rw (le-leb _ _ h, e))
+      let l = length-take-le n (drop place (stream (signature bs))) (rw length-drop (omega arith)) in
+      (rw (bytes-inside _ place n h) (sym l), rw (le-leb _ _ h, e))
 
   -- "A blob is shown as that very part of the caller's input": so many bytes of the input, from that byte on, are the blob
   pub blob-lies : take (blob-size bs place n) (drop (blob-from bs place n) bs) ≡ blob-of bs place n
@@ -89,7 +90,8 @@ module _ (bs : List ℕ) (place n : ℕ) where
 
 -- ---- the calls for the header, of what `Signature::parse` says
 module _ (bs : List ℕ) where
-  pub header-refused : {k : ℕ} (old ts : List ℕ) → parsed (signature bs) ≡ Refused k → ts ≡ over (0 ∷ 0 ∷ 0 ∷ 0 ∷ 0 ∷ 0 ∷ []) old → ReturnsHeader bs old k ts
+  pub header-refused : {k : ℕ} (old ts : List ℕ) → parsed (signature bs) ≡ Refused k → ts ≡ over (0 ∷ 0 ∷ 0 ∷ 0 ∷ 0 ∷ 0 ∷ []) old
+      → ReturnsHeader bs old k ts
   unfolding parsed header-status header-numbers
   header-refused {k} old ts e x = go (signature bs) e
     where

@@ -1,5 +1,5 @@
-// The library that people link: the walk, the header, a blob's place and the typed operands, for a program in C or Rust to call. A slice is handed over
-// as a pointer and a length, and a lent number as a pointer. Each call is total and asks nothing of its caller.
+// The library that people link: the walk, the header, a blob's place and typed operands, for a program in C or Rust to call. A slice is handed over as
+// a pointer and a length, and a lent number as a pointer. Each call is total and asks nothing of its caller.
 use bitcode::LLVM_BITCODE_WRAPPER_MAGIC;
 use bitcode::NextI64;
 use bitcode::NextRange;
@@ -88,8 +88,8 @@ fn six_of(h: Signature) -> [u64; HEADER]
     [h.magic, h.magic2, h.version, h.offset, h.size, h.cpu]
 }
 
-// The header of an input, of any length. The store is for as many as fit of these: magic, magic2, version, offset, size, cpu; zeros where the header is
-// refused. Hands 0 back, or the refusal's number.
+// The header of an input of any length. The store is for as many numbers as fit of these: magic, magic2, version, offset, size, cpu; zeros where the
+// header is refused. Hands 0 back, or the refusal's number.
 #[no_mangle]
 pub extern "C" fn gleanrime_header(input: &[u8], told: &mut [u64]) -> u64
     ensures status { λ r. ⌜ r ≡ header-status (signature (now (input .entry))) ⌝ }
@@ -122,8 +122,8 @@ fn stream_start(input: &[u8]) -> u64
     }
 }
 
-// A blob, by the place and the length that its record's event tells: hands back how many bytes it has, and `from` is the byte of the input at which it
-// begins. Both are 0 where the place and the length are not inside the stream.
+// A blob, by the place and the length that its record's event tells: hands back how many bytes it has, and `from` is the byte of the input at which
+// it begins. Both are 0 where the place and the length are not inside the stream.
 #[no_mangle]
 pub extern "C" fn gleanrime_blob(input: &[u8], place: u64, length: u64, from: &mut u64) -> u64
     ensures size { λ r. ⌜ r ≡ blob-size (now (input .entry)) place length ⌝ }
@@ -151,8 +151,8 @@ fn fits(v: u64, bits: u64) -> bool
     v < 1 << bits
 }
 
-// The operand at the place `first` of a store, where `count` are left in its record: it must be below 2^bits, so that 8, 16, 32 and 64 stand for u8 to
-// u64, and 1 for a bool. Hands 0 back, or the refusal's number, and then `value` is 0.
+// The operand at the place `first` of a store, where `count` are left in its record: it must be below 2^bits, so that 8, 16, 32 and 64 stand for u8
+// to u64, and 1 for a bool. Hands 0 back, or the refusal's number, and then `value` is 0.
 #[no_mangle]
 pub extern "C" fn gleanrime_unsigned(
     operands: &[u64],
@@ -177,7 +177,7 @@ pub extern "C" fn gleanrime_unsigned(
     }
 }
 
-// The same for a signed number, whose lowest bit is the sign.
+// The same for a signed number: the operand's lowest bit is its sign.
 #[no_mangle]
 pub extern "C" fn gleanrime_signed(operands: &[u64], first: u64, count: u64, value: &mut i64) -> u64
     ensures status { λ r. ⌜ r ≡ status-of (operand next-signed (now (operands .entry)) first count) ⌝ }
@@ -193,7 +193,7 @@ pub extern "C" fn gleanrime_signed(operands: &[u64], first: u64, count: u64, val
     }
 }
 
-// The same for two operands, a start and a length: `end` is the place behind the last one.
+// The same for two operands, a start and a length: told as a start and an end, which is not part of it.
 #[no_mangle]
 pub extern "C" fn gleanrime_range(
     operands: &[u64],

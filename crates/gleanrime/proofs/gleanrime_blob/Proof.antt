@@ -20,10 +20,14 @@ stream-start-requires : tie.Need-stream-start-requires
 stream-start-requires c κs = search needs
 
 add-from : tie.Need-add-from
-add-from c = omega (arith, c .stream-start .ensures, ap length (c .before .before .before .stream .ensures), stream-lies (c .before .before .before .before .before .args .input .now) .inside)
+add-from c =
+    let bs = c .before .before .before .before .before .args .input .now in
+    omega (arith, c .stream-start .ensures, ap length (c .before .before .before .stream .ensures), stream-lies bs .inside)
 
 returns-3 : tie.Need-returns-3
-returns-3 c = blob-inside (c .before .before .before .before .before .args .input .now) _ _ _ (c .stream-start .ensures) (omega (arith, ap length (c .before .before .before .stream .ensures)))
+returns-3 c =
+    let bs = c .before .before .before .before .before .args .input .now in
+    blob-inside bs _ _ _ (c .stream-start .ensures) (omega (arith, ap length (c .before .before .before .stream .ensures)))
 
 pub gleanrime-blob-spec : {M : Type 1} → statement M
 gleanrime-blob-spec =

@@ -33,13 +33,18 @@ same-length : tie.Need-same-length
 same-length c = search needs
 
 returns : tie.Need-returns
-returns c = header-refused _ _ _ (sym (c .before .before .before .before .before .before .before .before .parse .ensures) ∙ c .before .before .before .before .before .before .e .given .1) (c .before .before .put-front .ensures)
+returns c =
+    let p = c .before .before .before .before .before .before .before .before .parse in
+    header-refused _ _ _ (sym (p .ensures) ∙ c .before .before .before .before .before .before .e .given .1) (c .before .before .put-front .ensures)
 
 same-length-2 : tie.Need-same-length-2
 same-length-2 c = search needs
 
 returns-2 : tie.Need-returns-2
-returns-2 c = header-signed _ _ _ (sym (c .before .before .before .before .before .before .before .before .before .parse .ensures) ∙ c .before .before .before .before .before .before .before .h .given .1) (rw (c .before .before .before .before .before .six-of .ensures) at (c .before .before .put-front2 .ensures))
+returns-2 c =
+    let p = c .before .before .before .before .before .before .before .before .before .parse in
+    header-signed _ _ _ (sym (p .ensures) ∙ c .before .before .before .before .before .before .before .h .given .1)
+    (rw (c .before .before .before .before .before .six-of .ensures) at (c .before .before .put-front2 .ensures))
 
 pub gleanrime-header-spec : {M : Type 1} → statement M
 gleanrime-header-spec =

@@ -22,13 +22,15 @@ enum-known-n c = search needs
 returns : tie.Need-returns
 returns c =
     let s = c .before .before .before .before .before .before .args .operands .now in
-    signed-refused s _ _ _ (c .before .before .before .before .new .ensures) (omega arith) (rw (c .before .e .given .1) at (c .before .before .before .i64 .ensures))
+    signed-refused s _ _ _ (c .before .before .before .before .new .ensures) (omega arith) 
+    (rw (c .before .e .given .1) at (c .before .before .before .i64 .ensures))
 
 returns-2 : tie.Need-returns-2
 returns-2 c =
     let s = c .before .before .before .before .before .before .args .operands .now in
     rw (toZ-ofZ w64 (c .before .n .given .0 .0) (record { sfits = c .known-told2 .given .0 .1 }))
-    (signed-got s _ _ _ (c .before .before .before .before .new .ensures) (omega arith) (rw (c .before .n .given .1) at (c .before .before .before .i64 .ensures)))
+    (signed-got s _ _ _ (c .before .before .before .before .new .ensures) (omega arith)
+    (rw (c .before .n .given .1) at (c .before .before .before .i64 .ensures)))
 
 pub gleanrime-signed-spec : {M : Type 1} → statement M
 gleanrime-signed-spec =

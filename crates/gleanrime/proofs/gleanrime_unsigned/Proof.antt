@@ -26,18 +26,21 @@ returns : tie.Need-returns
 returns c =
     let s = c .before .before .before .before .before .before .before .before .args .operands .now in
     unsigned-got s _ _ _ (c .before .before .before .before .before .before .new .ensures) (omega arith) _
-    (rw (c .before .before .before .v .given .1) at (c .before .before .before .before .before .u64 .ensures)) (ltb-true _ _ (sym (c .before .fits2 .ensures) ∙ c .if1 .taken))
+    (rw (c .before .before .before .v .given .1) at (c .before .before .before .before .before .u64 .ensures))
+    (ltb-true _ _ (sym (c .before .fits2 .ensures) ∙ c .if1 .taken))
 
 returns-2 : tie.Need-returns-2
 returns-2 c =
     let s = c .before .before .before .before .before .before .args .operands .now in
-    unsigned-refused s _ _ _ (c .before .before .before .before .new .ensures) (omega arith) _ (rw (c .before .e .given .1) at (c .before .before .before .u64 .ensures))
+    unsigned-refused s _ _ _ (c .before .before .before .before .new .ensures) (omega arith) _ 
+    (rw (c .before .e .given .1) at (c .before .before .before .u64 .ensures))
 
 returns-3 : tie.Need-returns-3
 returns-3 c =
     let s = c .before .before .before .before .before .before .before .before .args .operands .now in
     unsigned-over s _ _ _ (c .before .before .before .before .before .before .new .ensures) (omega arith) _
-    (rw (c .before .before .before .v .given .1) at (c .before .before .before .before .before .u64 .ensures)) (ltb-false _ _ (sym (c .before .fits2 .ensures) ∙ c .if1 .left))
+    (rw (c .before .before .before .v .given .1) at (c .before .before .before .before .before .u64 .ensures))
+    (ltb-false _ _ (sym (c .before .fits2 .ensures) ∙ c .if1 .left))
 
 pub gleanrime-unsigned-spec : {M : Type 1} → statement M
 gleanrime-unsigned-spec =

@@ -18,11 +18,14 @@ enum-known-h c = search needs
 
 add-result : tie.Need-add-result
 add-result c =
-    let w = parsed-opens _ _ (sym (c .before .before .before .before .before .before .parse .ensures) ∙ c .before .before .before .before .h .given .1) .wraps (c .before .if1 .taken) in
+    let p = c .before .before .before .before .before .before .parse in
+    let w = parsed-opens _ _ (sym (p .ensures) ∙ c .before .before .before .before .h .given .1) .wraps (c .before .if1 .taken) in
     omega (arith, w .inside, w .holds)
 
 returns : tie.Need-returns
-returns c = start-wrapped _ (sym (c .before .before .before .before .before .before .parse .ensures) ∙ c .before .before .before .before .h .given .1) (c .before .if1 .taken)
+returns c =
+    let p = c .before .before .before .before .before .before .parse in
+    start-wrapped _ (sym (p .ensures) ∙ c .before .before .before .before .h .given .1) (c .before .if1 .taken)
 
 returns-2 : tie.Need-returns-2
 returns-2 c = start-none _ (sym (c .before .before .parse .ensures) ∙ c .enum-told .given .1)
