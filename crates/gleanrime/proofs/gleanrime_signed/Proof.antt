@@ -22,7 +22,7 @@ enum-known-n c = search needs
 returns : tie.Need-returns
 returns c =
     let s = c .before .before .before .before .before .before .args .operands .now in
-    signed-refused s _ _ _ (c .before .before .before .before .new .ensures) (omega arith) 
+    signed-refused s _ _ _ (c .before .before .before .before .new .ensures) (omega arith)
     (rw (c .before .e .given .1) at (c .before .before .before .i64 .ensures))
 
 returns-2 : tie.Need-returns-2

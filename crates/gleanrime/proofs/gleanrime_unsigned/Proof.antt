@@ -32,7 +32,7 @@ returns c =
 returns-2 : tie.Need-returns-2
 returns-2 c =
     let s = c .before .before .before .before .before .before .args .operands .now in
-    unsigned-refused s _ _ _ (c .before .before .before .before .new .ensures) (omega arith) _ 
+    unsigned-refused s _ _ _ (c .before .before .before .before .new .ensures) (omega arith) _
     (rw (c .before .e .given .1) at (c .before .before .before .u64 .ensures))
 
 returns-3 : tie.Need-returns-3
