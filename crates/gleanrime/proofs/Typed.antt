@@ -93,12 +93,12 @@ module _ (s : List ℕ) (first count : ℕ) (o : Operands)
   pub signed-refused : {k : ℕ} → Off next-signed s (o .end) (o .at) (no k 0 0) → ReturnsSigned s first count k (pos 0)
   signed-refused x = refused-so next-signed (pos 0) (signed-alike s) x
 
-  pub signed-got : {v : ℤ} {d : Cursor} → At next-signed s (o .end) (o .at) v d → ReturnsSigned s first count 0 v
-  signed-got x = got-so next-signed (pos 0) (signed-alike s) x
+  pub signed-got : {v w : ℤ} {d : Cursor} → At next-signed s (o .end) (o .at) v d → w ≡ v → ReturnsSigned s first count 0 w
+  signed-got x e = rw e (got-so next-signed (pos 0) (signed-alike s) x)
 
   -- `Operands::range`
   pub range-refused : {k : ℕ} → Off next-range s (o .end) (o .at) (no k 0 0) → ReturnsRange s first count k 0 0
   range-refused x = let r = refused-so next-range no-range (range-alike s) x in (r .0, (rw (← r .1), rw (← r .1)))
 
-  pub range-got : {v : Range} {d : Cursor} → At next-range s (o .end) (o .at) v d → ReturnsRange s first count 0 (v .start) (v .end)
-  range-got x = let r = got-so next-range no-range (range-alike s) x in (r .0, (rw (← r .1), rw (← r .1)))
+  pub range-got : (v : Range) {d : Cursor} → At next-range s (o .end) (o .at) v d → ReturnsRange s first count 0 (v .start) (v .end)
+  range-got v x = let r = got-so next-range no-range (range-alike s) x in (r .0, (rw (← r .1), rw (← r .1)))

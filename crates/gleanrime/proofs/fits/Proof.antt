@@ -1,6 +1,7 @@
 -- `gleanrime::fits` meets its contract: below 64 the shift loses nothing, and from 64 on every number fits. Assumes nothing.
-use mathlib.Core.Path.{sym}
+use mathlib.Core.Path.{sym, ap}
 use Prim.Native.Nat.{_^_}
+use lib.Dec.{ltb}
 use native.Mathlib.Nat.{one-mul, mod-eq-of-lt}
 use native.Mathlib.Omega.{arith}
 use lib.Pow.{pow-lt, pow-mono}
@@ -16,7 +17,7 @@ shl-result : tie.Need-shl-result
 shl-result c = search needs
 
 returns-2 : tie.Need-returns-2
-returns-2 c = rw (one-mul, mod-eq-of-lt (pow-lt {j = 64} (c .if1 .left)))
+returns-2 c = ap (ltb (c .before .args .v)) (rw one-mul (mod-eq-of-lt (pow-lt {j = 64} (c .if1 .left))))
 
 pub fits-spec : {M : Type 1} → statement M
 fits-spec = tie.close (tie.spec returns shl-result returns-2)

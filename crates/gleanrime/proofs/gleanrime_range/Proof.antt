@@ -19,14 +19,14 @@ enum-known-v c = search needs
 
 returns : tie.Need-returns
 returns c =
-    let s = c .before .before .before .before .before .before .args .operands .now in
-    range-refused s _ _ _ (c .before .before .before .before .new .ensures) (omega arith)
+    let a = c .before .before .before .before .before .before .args in
+    range-refused (a .operands .now) (a .first) (a .count) _ (c .before .before .before .before .new .ensures) (omega arith)
     (rw (c .before .e .given .1) at (c .before .before .before .range .ensures))
 
 returns-2 : tie.Need-returns-2
 returns-2 c =
-    let s = c .before .before .before .before .before .before .args .operands .now in
-    range-got s _ _ _ (c .before .before .before .before .new .ensures) (omega arith)
+    let a = c .before .before .before .before .before .before .args in
+    range-got (a .operands .now) (a .first) (a .count) _ (c .before .before .before .before .new .ensures) (omega arith) (c .before .v .given .0 .0)
     (rw (c .before .v .given .1) at (c .before .before .before .range .ensures))
 
 pub gleanrime-range-spec : {M : Type 1} → statement M

@@ -1,4 +1,4 @@
--- `gleanrime::gleanrime_signed` meets its contract: what `Operands::i64` gives, or 0. Assumes nothing.
+-- `gleanrime::gleanrime_signed` meets its contract: what `Operands::i64` gives, which fits 64 bits with its sign, or 0. Assumes nothing.
 use mir.Syntax.{w64}
 use mir.ValLaws.{toZ-ofZ}
 use native.Mathlib.Omega.{arith}
@@ -21,16 +21,16 @@ enum-known-n c = search needs
 
 returns : tie.Need-returns
 returns c =
-    let s = c .before .before .before .before .before .before .args .operands .now in
-    signed-refused s _ _ _ (c .before .before .before .before .new .ensures) (omega arith)
+    let a = c .before .before .before .before .before .before .args in
+    signed-refused (a .operands .now) (a .first) (a .count) _ (c .before .before .before .before .new .ensures) (omega arith)
     (rw (c .before .e .given .1) at (c .before .before .before .i64 .ensures))
 
 returns-2 : tie.Need-returns-2
 returns-2 c =
-    let s = c .before .before .before .before .before .before .args .operands .now in
-    rw (toZ-ofZ w64 (c .before .n .given .0 .0) (record { sfits = c .known-told2 .given .0 .1 }))
-    (signed-got s _ _ _ (c .before .before .before .before .new .ensures) (omega arith)
-    (rw (c .before .n .given .1) at (c .before .before .before .i64 .ensures)))
+    let a = c .before .before .before .before .before .before .args in
+    signed-got (a .operands .now) (a .first) (a .count) _ (c .before .before .before .before .new .ensures) (omega arith)
+    (rw (c .before .n .given .1) at (c .before .before .before .i64 .ensures))
+    (toZ-ofZ w64 (c .before .n .given .0 .0) (record { sfits = c .known-told2 .given .0 .1 }))
 
 pub gleanrime-signed-spec : {M : Type 1} → statement M
 gleanrime-signed-spec =

@@ -24,21 +24,21 @@ fits-requires c κs = search needs
 
 returns : tie.Need-returns
 returns c =
-    let s = c .before .before .before .before .before .before .before .before .args .operands .now in
-    unsigned-got s _ _ _ (c .before .before .before .before .before .before .new .ensures) (omega arith) _
+    let a = c .before .before .before .before .before .before .before .before .args in
+    unsigned-got (a .operands .now) (a .first) (a .count) _ (c .before .before .before .before .before .before .new .ensures) (omega arith) (a .bits)
     (rw (c .before .before .before .v .given .1) at (c .before .before .before .before .before .u64 .ensures))
     (ltb-true _ _ (sym (c .before .fits2 .ensures) ∙ c .if1 .taken))
 
 returns-2 : tie.Need-returns-2
 returns-2 c =
-    let s = c .before .before .before .before .before .before .args .operands .now in
-    unsigned-refused s _ _ _ (c .before .before .before .before .new .ensures) (omega arith) _
+    let a = c .before .before .before .before .before .before .args in
+    unsigned-refused (a .operands .now) (a .first) (a .count) _ (c .before .before .before .before .new .ensures) (omega arith) (a .bits)
     (rw (c .before .e .given .1) at (c .before .before .before .u64 .ensures))
 
 returns-3 : tie.Need-returns-3
 returns-3 c =
-    let s = c .before .before .before .before .before .before .before .before .args .operands .now in
-    unsigned-over s _ _ _ (c .before .before .before .before .before .before .new .ensures) (omega arith) _
+    let a = c .before .before .before .before .before .before .before .before .args in
+    unsigned-over (a .operands .now) (a .first) (a .count) _ (c .before .before .before .before .before .before .new .ensures) (omega arith) (a .bits)
     (rw (c .before .before .before .v .given .1) at (c .before .before .before .before .before .u64 .ensures))
     (ltb-false _ _ (sym (c .before .fits2 .ensures) ∙ c .if1 .left))
 
