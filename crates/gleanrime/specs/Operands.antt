@@ -8,7 +8,8 @@ use Rattle.bits.specs.Reader.{Reader, Answer, got, refused}
 use Rattle.bitcode.specs.declared.Range.{Range}
 use Rattle.bitcode.specs.Operands.{next-below, next-signed, next-range}
 
--- an operand of a record, read from the place `first` of the store on, where `count` operands are left: the record ends behind them
+-- an operand of a record, read from the place `first` of the store on, where `count` operands are left: the record ends behind them ("none left, or a
+-- place outside the lent store: 14")
 abbrev pub operand : {A : Type 0} → Reader No A → List ℕ → ℕ → ℕ → Answer No A
 operand m store first count = m store (first + count) first
 
@@ -17,7 +18,7 @@ unfoldable pub status-of : {A : Type 0} → Answer No A → ℕ
 status-of (got a q) = 0
 status-of (refused (no number first second)) = number
 
--- the value; behind a refusal there is none, and the number that is lent gets `none` for it
+-- the value; behind a refusal there is none, and the lent number gets `none` for it, so that no number of an earlier call stays
 unfoldable pub value-or : {A : Type 0} → A → Answer No A → A
 value-or none (got a q) = a
 value-or none (refused r) = none

@@ -1,5 +1,5 @@
-// The library that people link: the walk, the header, a blob's place and typed operands, for a program in C or Rust to call. A slice is handed over as
-// a pointer and a length, and a lent number as a pointer. Each call is total and asks nothing of its caller.
+// The library that people link: the walk, the header, a blob's place and typed operands, for a program in C or Rust to call. A slice is handed over
+// as a pointer and a length, and a lent number as a pointer. Each call is total and asks nothing of its caller.
 use bitcode::LLVM_BITCODE_WRAPPER_MAGIC;
 use bitcode::NextI64;
 use bitcode::NextRange;
