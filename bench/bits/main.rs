@@ -1,4 +1,4 @@
-//! Times the proved bit reader beside a plain Rust one, in one run: nanoseconds for a number that is read, the best of many turns.
+//! Times the proved bit reader beside a plain Rust one, in one run, and prints Markdown: nanoseconds for a number that is read, the best of many turns.
 //! Both sum the same numbers of the same bytes, and the sums must agree.
 mod plain;
 
@@ -125,9 +125,10 @@ fn main() {
         assert_eq!(proved_fields(&mixed[..1000], width), plain_fields(&mixed[..1000], width), "fields of {width} bits");
         assert_eq!(proved_vbr(&mixed[..1000], width), plain_vbr(&mixed[..1000], width), "VBR numbers of width {width}");
     }
-    println!("{:<30} {:>9} {:>9} {:>7}", "ns for a number", "Rattle", "Rust", "ratio");
+    println!("The bit layer, best of {TURNS} turns over {BYTES} bytes, nanoseconds for a number:\n");
+    println!("| | Rattle | Rust | ratio |");
+    println!("|---|---|---|---|");
     for row in &rows {
-        println!("{:<30} {:>9.2} {:>9.2} {:>7.2}", row.name, row.best[0], row.best[1], row.best[0] / row.best[1]);
+        println!("| {} | {:.2} | {:.2} | {:.2} |", row.name, row.best[0], row.best[1], row.best[0] / row.best[1]);
     }
-    println!("best of {TURNS} turns over {BYTES} bytes on {}; the sums agree", std::env::consts::ARCH);
 }
