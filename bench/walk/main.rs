@@ -77,7 +77,7 @@ fn main() {
     let file = words.next().expect("the second word is a file for llvm-bcanalyzer");
 
     println!("Logs of 8 MiB, best of {turns} turns; millions, then milliseconds, then ratios:\n");
-    println!("| log | events | operands | walk | walk, and over its events | visitor | iterators | llvm-bcanalyzer | clearing | walk : visitor | with events : visitor |");
+    println!("| log | events | operands | walk | and events | visitor | iterators | bcanalyzer | clearing | walk : visitor | and events : visitor |");
     println!("|---|---|---|---|---|---|---|---|---|---|---|");
     KINDS.iter().for_each(|kind| compare(kind, turns, &file));
 

@@ -1,20 +1,10 @@
 //! Our static library, called as C would call it.
 use crate::answer::{Answer, Sheet};
+use sys::c::gleanrime_walk;
 
-unsafe extern "C" {
-    fn gleanrime_walk(
-        input: *const u8,
-        input_len: usize,
-        skip: *const u64,
-        skip_len: usize,
-        events: *mut u64,
-        events_len: usize,
-        operands: *mut u64,
-        operands_len: usize,
-        told: *mut u64,
-        told_len: usize,
-    ) -> u64;
-}
+#[allow(dead_code)]
+#[path = "../../rust/src/sys.rs"]
+mod sys;
 
 const EVENT_SIZE: usize = 8;
 

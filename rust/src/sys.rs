@@ -3,7 +3,7 @@
 //! Each call is proved total: it asks nothing of the numbers and bytes that it is given. What it does ask is what Rust's references promise anyway: a
 //! slice's pointer is good for its length, and what is lent for writing overlaps nothing else.
 
-mod c {
+pub mod c {
     unsafe extern "C" {
         pub fn gleanrime_walk(
             input: *const u8,

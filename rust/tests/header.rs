@@ -1,25 +1,13 @@
 //! c/gleanrime.h against this crate: each of its constants is read from the header itself, and is the crate's, or what a walk shows.
 mod common;
+#[allow(dead_code)]
+#[path = "../src/sys.rs"]
+mod sys;
 
 use common::{Chance, SAMPLE, make, wrapped};
 use gleanrime::{Event, Payload, Refusal, walk};
 use std::collections::BTreeMap;
-
-unsafe extern "C" {
-    fn gleanrime_walk(
-        input: *const u8,
-        input_len: usize,
-        skip: *const u64,
-        skip_len: usize,
-        events: *mut u64,
-        events_len: usize,
-        operands: *mut u64,
-        operands_len: usize,
-        told: *mut u64,
-        told_len: usize,
-    ) -> u64;
-    fn gleanrime_header(input: *const u8, input_len: usize, told: *mut u64, told_len: usize) -> u64;
-}
+use sys::c::{gleanrime_header, gleanrime_walk};
 
 const TEXT: &str = include_str!("../../c/gleanrime.h");
 

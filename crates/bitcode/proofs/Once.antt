@@ -11,6 +11,7 @@ use Rattle.bitcode.specs.Scalar.{value}
 use Rattle.bitcode.specs.Header.{signature, parsed, stream, bytes-of, blob-of}
 use Rattle.bitcode.specs.Operands.{next, next-below, next-bool, next-signed, next-range, placeOf, ofU8, ofU16, ofU32, ofU64, ofBool, ofI64, ofRange}
 use Rattle.bitcode.specs.declared.ScalarOperand.{ScalarOperand}
+use Rattle.bitcode.specs.declared.ScalarOperand.the-variants.{Char6}
 use Rattle.bitcode.specs.declared.Parsed.{Parsed}
 use Rattle.bitcode.specs.declared.Operands.{Operands}
 use Rattle.bitcode.specs.declared.NextU8.{NextU8}
@@ -28,7 +29,11 @@ use Rattle.bitcode.specs.declared.NextI64.the-variants as I64
 use Rattle.bitcode.specs.declared.NextRange.{NextRange}
 use Rattle.bitcode.specs.declared.NextRange.the-variants as R
 
--- ---- a scalar operand
+-- ---- a letter, and a scalar operand
+pub read-char6-once : (c : Cursor) (s : List ℕ) (r r′ : Read)
+    → Gives c s (value Char6) (ofRead r) → Gives c s (value Char6) (ofRead r′) → r ≡ r′
+read-char6-once c s = told-once ofRead Read.Value Read.Refused read-back c s (value Char6)
+
 pub read-scalar-operand-once : (c : Cursor) (s : List ℕ) (o : ScalarOperand) (r r′ : Read)
     → Gives c s (value o) (ofRead r) → Gives c s (value o) (ofRead r′) → r ≡ r′
 read-scalar-operand-once c s o = told-once ofRead Read.Value Read.Refused read-back c s (value o)

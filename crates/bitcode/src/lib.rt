@@ -10,6 +10,7 @@ ghost use Prim.Native.Nat.{ℕ, _+_, _*_, _^_, _≤_, _<_, min};
 ghost use lib.ListN.{length, take, drop};
 ghost use Rattle.bits.specs.Told.{Gives, ofRead};
 ghost use Rattle.bitcode.specs.Scalar.{ascii, value};
+ghost use Rattle.bitcode.specs.declared.ScalarOperand.the-variants.{Char6};
 ghost use Rattle.bitcode.specs.Header.{word, wrapped as wrappedOf, signature, parsed, stream as streamOf, bytes-of, blob-of};
 ghost use Rattle.bitcode.specs.Operands.{next, next-below, next-bool, next-signed, next-range, placeOf, ofU8, ofU16, ofU32, ofU64, ofBool, ofI64, ofRange};
 
@@ -88,16 +89,32 @@ pub enum NextRange {
     Refused(u64),
 }
 
-// The letter that a six-bit number stands for.
+// The letter that a six-bit number stands for. What lies behind the two alphabets is settled first: each match then picks one of a few numbers,
+// which takes no branch, and the letters of a text can't be foreseen by a processor.
 fn letter(v: u64) -> u64
+    requires { ⌜ v < 64 ⌝ }
     ensures { λ r. ⌜ r ≡ ascii v ⌝ }
 {
-    match v {
-        0..=25 => v + 97,
-        26..=51 => v + 39,
-        52..=61 => v - 4,
-        62 => 46,
-        _ => 95,
+    let behind = match v {
+        0..=61 => 12,
+        62 => 0,
+        _ => 48,
+    };
+    let shift = match v {
+        0..=25 => 113,
+        26..=51 => 55,
+        _ => behind,
+    };
+    v + shift - 16
+}
+
+// A letter of six bits.
+pub fn read_char6(c: Cursor, s: &[u8]) -> Read
+    ensures { λ r. ⌜ Gives c (now (s .entry)) (value Char6) (ofRead r) ⌝ }
+{
+    match c.read(s, 6) {
+        Read::Refused(e) => Read::Refused(e),
+        Read::Value(v, d) => Read::Value(letter(v), d),
     }
 }
 
@@ -109,10 +126,7 @@ pub fn read_scalar_operand(c: Cursor, s: &[u8], operand: ScalarOperand) -> Read
         ScalarOperand::Literal(v) => Read::Value(v, c),
         ScalarOperand::Fixed(w) => c.read(s, w),
         ScalarOperand::Vbr(w) => c.read_vbr(s, w),
-        ScalarOperand::Char6 => match c.read(s, 6) {
-            Read::Refused(e) => Read::Refused(e),
-            Read::Value(v, d) => Read::Value(letter(v), d),
-        },
+        ScalarOperand::Char6 => read_char6(c, s),
     }
 }
 

@@ -1,13 +1,14 @@
 -- Records and heads, put together from their parts. A record is read in two parts by the definition, and as code, operands and payload by the code:
 -- both are one reader. Assumes nothing.
-use mathlib.Core.Path.{_≡_, refl, sym, ap, subst, fun-ext, _∙_}
+use mathlib.Core.Path.{_≡_, refl, sym, ap, ap₂, subst, fun-ext, _∙_}
 use mathlib.Core.Bool.{Bool, true, false}
-use mathlib.Core.List.{List, _∷_, _++_, append-assoc, append-nil}
-use Prim.Native.Nat.{ℕ, _+_, _-_, _*_, _/_, _%_, _^_, _≤_, _<_}
+use mathlib.Core.List.{List, [], _∷_, _++_, append-assoc, append-nil}
+use Prim.Native.Nat.{ℕ, suc, _+_, _-_, _*_, _/_, _%_, _^_, _≤_, _<_}
 use native.Mathlib.Omega.{arith}
 use lib.ListN.{length, take}
 use lib.Seq.{length-take-le}
 use lib.Dec.{leb, ltb}
+use borrow.Rule.Slice.PartMut.{putMid}
 use borrow.Author.Tests.{le-leb, lt-leb, lt-ltb, ne-eqb, leb-true}
 use Rattle.terms.specs.Refusals.{No, buffer-overflow, invalid-abbrev, block-number-too-large}
 use Rattle.bits.specs.Reader.{Reader, Answer, got, refused, onward, _>>=_, give, stop, require, if_then_else_}
@@ -21,7 +22,7 @@ use Rattle.bitcode.specs.declared.ScalarOperand.the-variants.{Vbr}
 use Rattle.bitcode.specs.Scalar.{value}
 use Rattle.abbrev.specs.Abbrev.{Payload, none, blob, array, abbreviation}
 use Rattle.abbrev.specs.Tables.{row-size, slot, slots, load-of, abbrev-of}
-use Rattle.walk.specs.Record.{Load, no-load, list-load, blob-load, a-record, values, repeated, octets, bytes-if, bytes, payload-part, scalar-part, unabbreviated, array-kind, rest, load-list, record-list}
+use Rattle.walk.specs.Record.{Load, no-load, list-load, blob-load, Record, a-record, stored, values, repeated, octets, bytes-if, bytes, payload-part, scalar-part, unabbreviated, array-kind, rest, load-list, record-list}
 use Rattle.walk.specs.Piece.{Head, head, record-event, record-of}
 use Rattle.walk.specs.Item.{heading, fits}
 use Rattle.walk.specs.Contracts.{plain, abbreviated, blob-bytes, load, Reads, Loads, Recorded, Loaded, head-length, head-width, head-fits, Heads}
@@ -31,7 +32,8 @@ use Rattle.walk.specs.declared.Got.the-variants as G
 use Rattle.walk.specs.declared.HeadRead.{HeadRead}
 use Rattle.walk.specs.declared.HeadRead.the-variants as H
 use Rattle.walk.proofs.Blobs.{octets-length}
-use Rattle.walk.proofs.Runs.{slots-first}
+use Rattle.walk.proofs.Runs.{stored-is}
+use Rattle.walk.proofs.Stores.{take-put-front}
 
 abbrev pub record-read : ℕ → ℕ → ℕ → ℕ → ℕ → ℕ → RecordRead
 record-read code count kind at n fill = record { code = code; count = count; kind = kind; at = at; length = n; fill = fill }
@@ -68,11 +70,33 @@ module _ (left code : ℕ) (vs : List ℕ) where
       (bind-assoc _ _ _ ∙ then-same _ (λ n. bind-assoc _ _ _ ∙ then-same _ (λ u. bind-assoc _ _ _ ∙ then-same _ (λ p. bind-assoc _ _ _ ∙ then-same _ (λ bs.
       bind-assoc _ _ _ ∙ then-same _ (λ w. given _ _))))))
 
-pub abbreviated-is : (left : ℕ) (k : ScalarOperand) (ks : List ScalarOperand) (t : Payload)
-    → abbreviated left (abbreviation (k ∷ ks) t)
-    ≡ (value k >>= (λ code. values left ks >>= (λ vs. load (left - length vs) t >>= (λ l. give (a-record code vs l)))))
-unfolding abbreviated scalar-part
-abbreviated-is left k ks t = bind-assoc _ _ _ ∙ then-same _ (λ code. bind-assoc _ _ _ ∙ then-same _ (λ vs. payload-is left code vs t))
+-- the scalars of a record are one run: for its code there is room beside the store
+scalars-are : (left : ℕ) (k : ScalarOperand) (ks : List ScalarOperand)
+    → values (suc left) (k ∷ ks) ≡ (value k >>= (λ code. values left ks >>= (λ vs. give (code ∷ vs))))
+unfolding values
+scalars-are left k ks =
+    let z : suc left - 1 ≡ left = omega arith in
+    let y : stored (suc left) k ≡ value k = fun-ext (λ s. fun-ext (λ e. fun-ext (λ p. stored-is (suc left) k s e p (omega arith)))) in
+    ap₂ (λ m l. m >>= (λ code. values l ks >>= (λ vs. give (code ∷ vs)))) y z
+
+-- and what is read behind them
+unfoldable behind-scalars : ℕ → Payload → List ℕ → Reader No Record
+behind-scalars left t [] = stop invalid-abbrev
+behind-scalars left t (code ∷ vs) = load (left - length vs) t >>= (λ l. give (a-record code vs l))
+
+no-scalars-is : (left : ℕ) (t : Payload) → abbreviated left (abbreviation [] t) ≡ (values (suc left) [] >>= behind-scalars left t)
+unfolding abbreviated scalar-part values behind-scalars stop give _>>=_ onward
+no-scalars-is left t = refl
+
+abbreviated-is : (left : ℕ) (ks : List ScalarOperand) (t : Payload)
+    → abbreviated left (abbreviation ks t) ≡ (values (suc left) ks >>= behind-scalars left t)
+unfolding abbreviated scalar-part behind-scalars
+abbreviated-is left [] t = no-scalars-is left t
+abbreviated-is left (k ∷ ks) t =
+    bind-assoc _ _ _ ∙ then-same _ (λ code. bind-assoc _ _ _ ∙ then-same _ (λ vs. payload-is left code vs t))
+    ∙ sym
+    (ap (λ m. m >>= behind-scalars left t) (scalars-are left k ks) ∙ bind-assoc _ _ _
+    ∙ then-same _ (λ code. bind-assoc _ _ _ ∙ then-same _ (λ vs. given _ _)))
 
 -- ---- a record with no abbreviation
 pub plain-reads : {c d g k : Cursor} {s : List ℕ} {code n : ℕ} (ops ops′ ys : List ℕ) (fill : ℕ)
@@ -164,40 +188,40 @@ module _ (left : ℕ) (kinds widths : List ℕ) (base shape : ℕ) where
   unfolding abbrev-of slots abbreviated scalar-part stop
   no-scalar h = rw h (off _ (record { why = refl }))
 
-  module _ (some : 0 < shape % row-size) where
-    row-reader : abbreviated left (abbrev-of kinds widths base shape)
-        ≡ (value (slot kinds widths base) >>= (λ code. values left (slots kinds widths (base + 1) (shape % row-size - 1)) >>= (λ vs.
-        load (left - length vs) (load-of (shape / row-size) (slot kinds widths (base + shape % row-size))) >>= (λ l. give (a-record code vs l)))))
-    unfolding abbrev-of
-    row-reader =
-        ap (λ xs. abbreviated left (abbreviation xs (load-of (shape / row-size) (slot kinds widths (base + shape % row-size))))) (slots-first kinds widths base (shape % row-size) some)
-        ∙ abbreviated-is _ _ _ _
+  -- how many operands, and the payload
+  abbrev many : ℕ
+  many = shape % row-size - 1
 
-    pub code-off : {c : Cursor} {s : List ℕ} {r : No} → Off (value (slot kinds widths base)) s (c .end) (c .at) r
-        → Off (abbreviated left (abbrev-of kinds widths base shape)) s (c .end) (c .at) r
-    code-off x = rw row-reader (off _ x)
+  abbrev payload : Payload
+  payload = load-of (shape / row-size) (slot kinds widths (base + shape % row-size))
 
-    pub values-off : {c d : Cursor} {s : List ℕ} {code : ℕ} {r : No} → At (value (slot kinds widths base)) s (c .end) (c .at) code d
-        → Off (values left (slots kinds widths (base + 1) (shape % row-size - 1))) s (d .end) (d .at) r
-        → Off (abbreviated left (abbrev-of kinds widths base shape)) s (c .end) (c .at) r
-    values-off x y = rw row-reader (then-off _ x (off _ y))
+  row-reader : abbreviated left (abbrev-of kinds widths base shape)
+      ≡ (values (suc left) (slots kinds widths base (shape % row-size)) >>= behind-scalars left payload)
+  unfolding abbrev-of
+  row-reader = abbreviated-is _ _ _
 
-    -- the payload is behind the operands
-    pub load-told : {c d g : Cursor} {s : List ℕ} {code : ℕ} (fill : ℕ) (vs ops ops₁ ops′ : List ℕ) (t : Got)
-        → At (value (slot kinds widths base)) s (c .end) (c .at) code d
-        → At (values left (slots kinds widths (base + 1) (shape % row-size - 1))) s (d .end) (d .at) vs g → length vs ≡ shape % row-size - 1
-        → take (fill + (shape % row-size - 1)) ops₁ ≡ take fill ops ++ vs
-        → Loaded g s (load (left - length vs) (load-of (shape / row-size) (slot kinds widths (base + shape % row-size)))) ops₁ ops′ (record-read code (shape % row-size - 1) 0 0 0 (fill + (shape % row-size - 1))) t
-        → Recorded c s (abbreviated left (abbrev-of kinds widths base shape)) fill ops ops′ t
-    unfolding record-list
-    load-told {code = code} fill vs ops ops₁ ops′ (G.Of r k) x y e w z = record {
-      record-read = a-record code vs (z .load-read);
-      gives = rw row-reader (on _ x (on _ y (on _ (z .gives) ends)));
-      event = λ b. z .event b fill vs (omega arith) e;
-      operands = z .operands ∙ ap (λ u. u ++ load-list (z .load-read)) w ∙ append-assoc (take fill ops) vs (load-list (z .load-read));
-      most = z .most;
-    }
-    load-told fill vs ops ops₁ ops′ (G.Refused m u v) x y e w z = rw row-reader (then-off _ x (then-off _ y (off _ z)))
+  pub scalars-off : {c : Cursor} {s : List ℕ} {r : No} → Off (values (suc left) (slots kinds widths base (shape % row-size))) s (c .end) (c .at) r
+      → Off (abbreviated left (abbrev-of kinds widths base shape)) s (c .end) (c .at) r
+  scalars-off x = rw row-reader (off _ x)
+
+  -- the payload is behind the operands, which are the front ys of the store's rest
+  pub load-told : {c g : Cursor} {s : List ℕ} {code : ℕ} (fill : ℕ) (ys ops ops′ : List ℕ) (t : Got) → fill ≤ length ops
+      → At (values (suc left) (slots kinds widths base (shape % row-size))) s (c .end) (c .at) (code ∷ take many ys) g → many ≤ length ys
+      → Loaded g s (load (left - many) payload) (putMid fill (length ops - fill) ops ys) ops′ (record-read code many 0 0 0 (fill + many)) t
+      → Recorded c s (abbreviated left (abbrev-of kinds widths base shape)) fill ops ops′ t
+  unfolding record-list behind-scalars
+  load-told {code = code} fill ys ops ops′ (G.Of r k) f x h z =
+      let e = length-take-le many ys h in
+      record {
+        record-read = a-record code (take many ys) (z .load-read);
+        gives = rw row-reader (on _ x (on _ (rw (sym e) at (z .gives)) ends));
+        event = λ b. z .event b fill (take many ys) (omega arith) e;
+        operands =
+            z .operands ∙ ap (λ u. u ++ load-list (z .load-read)) (take-put-front fill (length ops - fill) many ops ys f h)
+            ∙ append-assoc (take fill ops) (take many ys) (load-list (z .load-read));
+        most = z .most;
+      }
+  load-told fill ys ops ops′ (G.Refused m u v) f x h z = rw row-reader (then-off _ x (off _ (rw (sym (length-take-le many ys h)) at z)))
 
 -- the payload by its number
 pub array-told : (g : Cursor) (s : List ℕ) (a b l : ℕ) (k : ScalarOperand) (ops ops′ : List ℕ) (r : RecordRead) (t : Got) → l ≡ 1 → a ≡ b

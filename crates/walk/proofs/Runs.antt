@@ -1,4 +1,4 @@
--- Runs of operands into the front of a store: the loops of `fill_run` and of `fill_values`. Assumes nothing.
+-- Runs of operands into the front of a store: the loops for one kind of operand (`fill_fixed` and so on) and that of `fill_scalars`. Assumes nothing.
 use mathlib.Core.Path.{_≡_, refl, sym, ap, ap₂, subst, _∙_}
 use mathlib.Core.List.{List, [], _∷_, _++_, append-assoc, append-nil}
 use Prim.Native.Nat.{ℕ, zero, suc, _+_, _-_, _≤_, _<_}
@@ -22,7 +22,7 @@ module _ (left : ℕ) (k : ScalarOperand) (s : List ℕ) (e p : ℕ) where
   unfolding stored _>>=_ onward require
   stored-full h = rw h
 
-  stored-is : 0 < left → stored left k s e p ≡ value k s e p
+  pub stored-is : 0 < left → stored left k s e p ≡ value k s e p
   unfolding stored _>>=_ onward require
   stored-is h = rw (lt-ltb 0 left h)
 
@@ -72,62 +72,67 @@ repeated-turn left (suc n) k h =
     let z : n ≡ suc n - 1 = omega arith in
     ap (λ i. stored left k >>= (λ v. repeated (left - 1) i k >>= (λ vs. give (v ∷ vs)))) z
 
-pub record Filling (s : List ℕ) (c₀ : Cursor) (k : ScalarOperand) (count : ℕ) (xs₀ xs : List ℕ) (c : Cursor) (i left : ℕ) : Type 0 where
-  pub going : Going s (c₀ .end) (repeated (length xs₀) count k s (c₀ .end) (c₀ .at)) (repeated (length xs₀ - i) left k) (take i xs) (c .at)
+pub record Filling (s : List ℕ) (c₀ : Cursor) (k : ScalarOperand) (count : ℕ) (xs₀ xs : List ℕ) (c : Cursor) (i : ℕ) : Type 0 where
+  pub going : Going s (c₀ .end) (repeated (length xs₀) count k s (c₀ .end) (c₀ .at)) (repeated (length xs₀ - i) (count - i) k) (take i xs) (c .at)
   pub same-end : c .end ≡ c₀ .end
-  pub sum : i + left ≡ count
+  pub wanted : i ≤ count
   pub most : i ≤ length xs
   pub many : length xs ≡ length xs₀
 
-pub filling-start : (s : List ℕ) (c : Cursor) (k : ScalarOperand) (count : ℕ) (xs : List ℕ) → Filling s c k count xs xs c 0 count
+pub filling-start : (s : List ℕ) (c : Cursor) (k : ScalarOperand) (count : ℕ) (xs : List ℕ) → Filling s c k count xs xs c 0
 filling-start s c k count xs =
     let z : length xs ≡ length xs - 0 = omega arith in
+    let y : count ≡ count - 0 = omega arith in
     let whole = repeated (length xs) count k in
     record {
-      going = subst (λ n. Going s (c .end) (whole s (c .end) (c .at)) (repeated n count k) [] (c .at)) z (going-start s (c .end) (c .at) whole);
+      going =
+          subst (λ m. Going s (c .end) (whole s (c .end) (c .at)) (repeated (length xs - 0) m k) [] (c .at)) y
+          (subst (λ n. Going s (c .end) (whole s (c .end) (c .at)) (repeated n count k) [] (c .at)) z (going-start s (c .end) (c .at) whole));
       same-end = refl;
-      sum = omega arith;
+      wanted = omega arith;
       most = omega arith;
       many = refl;
     }
 
-module _ {s : List ℕ} {c₀ : Cursor} {k : ScalarOperand} {count : ℕ} {xs₀ xs : List ℕ} {c : Cursor} {i left : ℕ} (f : Filling s c₀ k count xs₀ xs c i left) where
-  pub filled : left ≡ 0 → At (repeated (length xs₀) count k) s (c₀ .end) (c₀ .at) (take count xs) c × (count ≤ length xs)
+module _ {s : List ℕ} {c₀ : Cursor} {k : ScalarOperand} {count : ℕ} {xs₀ xs : List ℕ} {c : Cursor} {i : ℕ} (f : Filling s c₀ k count xs₀ xs c i) where
+  pub filled : count ≤ i → At (repeated (length xs₀) count k) s (c₀ .end) (c₀ .at) (take count xs) c × (count ≤ length xs)
   unfolding repeated give
   filled h =
-      let z : i ≡ count = omega (arith, f .sum) in
-      (record { gives = going-none (f .going) (rw h) ∙ ap (λ n. got (take n xs) (c .at)) z; ends = f .same-end }, omega (arith, f .sum, f .most))
+      let z : i ≡ count = omega (arith, f .wanted) in
+      let y : count - i ≡ 0 = omega arith in
+      (record { gives = going-none (f .going) (rw y) ∙ ap (λ n. got (take n xs) (c .at)) z; ends = f .same-end }, omega (arith, f .most))
 
   -- one more turn
-  turn-as : {x : Answer No (List ℕ)} → 0 < left
-      → (stored (length xs₀ - i) k >>= (λ v. repeated (length xs₀ - i - 1) (left - 1) k >>= (λ vs. give (v ∷ vs)))) s (c₀ .end) (c .at) ≡ x
-      → repeated (length xs₀ - i) left k s (c₀ .end) (c .at) ≡ x
-  turn-as h z = ap (λ m. m s (c₀ .end) (c .at)) (repeated-turn (length xs₀ - i) left k h) ∙ z
+  turn-as : {x : Answer No (List ℕ)} → i < count
+      → (stored (length xs₀ - i) k >>= (λ v. repeated (length xs₀ - i - 1) (count - i - 1) k >>= (λ vs. give (v ∷ vs)))) s (c₀ .end) (c .at) ≡ x
+      → repeated (length xs₀ - i) (count - i) k s (c₀ .end) (c .at) ≡ x
+  turn-as h z = ap (λ m. m s (c₀ .end) (c .at)) (repeated-turn (length xs₀ - i) (count - i) k (omega arith)) ∙ z
 
-  pub filled-full : 0 < left → length xs ≤ i → Off (repeated (length xs₀) count k) s (c₀ .end) (c₀ .at) no-operand-room
+  pub filled-full : i < count → length xs ≤ i → Off (repeated (length xs₀) count k) s (c₀ .end) (c₀ .at) no-operand-room
   filled-full h l = record { why = going-off (f .going) (turn-as h (one-full _ _ _ _ _ _ (omega (arith, f .many)))) }
 
-  pub filled-off : {r : No} → 0 < left → i < length xs → Off (value k) s (c .end) (c .at) r → Off (repeated (length xs₀) count k) s (c₀ .end) (c₀ .at) r
+  pub filled-off : {r : No} → i < count → i < length xs → Off (value k) s (c .end) (c .at) r → Off (repeated (length xs₀) count k) s (c₀ .end) (c₀ .at) r
   filled-off h l o =
       let o₂ = rw (f .same-end) at o in
       record { why = going-off (f .going) (turn-as h (one-off _ _ _ _ _ _ (omega (arith, f .many)) (o₂ .why))) }
 
-  pub filled-more : {v : ℕ} {d : Cursor} → 0 < left → i < length xs → At (value k) s (c .end) (c .at) v d
-      → Filling s c₀ k count xs₀ (set xs i v) d (i + 1) (left - 1)
+  pub filled-more : {v : ℕ} {d : Cursor} → i < count → i < length xs → At (value k) s (c .end) (c .at) v d
+      → Filling s c₀ k count xs₀ (set xs i v) d (i + 1)
   filled-more {v} {d} h l o =
       let o₂ = rw (f .same-end) at o in
       let z : length xs₀ - i - 1 ≡ length xs₀ - (i + 1) = omega arith in
-      let y = turn-as h (one-more (length xs₀ - i) k (repeated (length xs₀ - i - 1) (left - 1) k) s (c₀ .end) (c .at) (omega (arith, f .many)) (o₂ .gives)) in
+      let w : count - i - 1 ≡ count - (i + 1) = omega arith in
+      let y = turn-as h (one-more (length xs₀ - i) k (repeated (length xs₀ - i - 1) (count - i - 1) k) s (c₀ .end) (c .at) (omega (arith, f .many)) (o₂ .gives)) in
       record {
-        going = going-more (f .going) v (y ∙ ap (λ n. mapped (λ vs. v ∷ vs) (repeated n (left - 1) k s (c₀ .end) (d .at))) z) (take-store xs i v l);
+        going = going-more (f .going) v (y ∙ ap₂ (λ n m. mapped (λ vs. v ∷ vs) (repeated n m k s (c₀ .end) (d .at))) z w) (take-store xs i v l);
         same-end = o₂ .ends;
-        sum = omega (arith, f .sum);
+        wanted = omega arith;
         most = rw (length-set xs i v) (omega arith);
         many = length-set xs i v ∙ f .many;
       }
 
 -- ---- those of an abbreviation
-pub slots-first : (kinds widths : List ℕ) (j n : ℕ) → 0 < n → slots kinds widths j n ≡ slot kinds widths j ∷ slots kinds widths (j + 1) (n - 1)
+slots-first : (kinds widths : List ℕ) (j n : ℕ) → 0 < n → slots kinds widths j n ≡ slot kinds widths j ∷ slots kinds widths (j + 1) (n - 1)
 unfolding slots
 slots-first kinds widths j zero h = absurd (omega arith)
 slots-first kinds widths j (suc n) h = let z : n ≡ suc n - 1 = omega arith in ap (λ i. slot kinds widths j ∷ slots kinds widths (j + 1) i) z
@@ -165,7 +170,7 @@ taking-start s c kinds widths from count xs =
     }
 
 module _ {s : List ℕ} {c₀ : Cursor} {kinds widths : List ℕ} {from count : ℕ} {xs₀ xs : List ℕ} {c : Cursor} {i : ℕ} (f : Taking s c₀ kinds widths from count xs₀ xs c i) where
-  pub took : count ≤ i → At (values (length xs₀) (slots kinds widths from count)) s (c₀ .end) (c₀ .at) (take count xs) c × (count ≤ length xs)
+  took : count ≤ i → At (values (length xs₀) (slots kinds widths from count)) s (c₀ .end) (c₀ .at) (take count xs) c × (count ≤ length xs)
   unfolding values slots give
   took h =
       let z : i ≡ count = omega (arith, f .some) in
@@ -189,17 +194,39 @@ module _ {s : List ℕ} {c₀ : Cursor} {kinds widths : List ℕ} {from count : 
       let o₂ = rw (f .same-end) at o in
       record { why = going-off (f .going) (turn-as-slot h (one-off _ _ _ _ _ _ (omega (arith, f .many)) (o₂ .why))) }
 
-  pub took-more : {v : ℕ} {d : Cursor} → i < count → i < length xs → At (value (slot kinds widths (from + i))) s (c .end) (c .at) v d
-      → Taking s c₀ kinds widths from count xs₀ (set xs i v) d (i + 1)
-  took-more {v} {d} h l o =
+  pub took-more : {v : ℕ} {d : Cursor} {xs′ : List ℕ} → i < count → i < length xs → At (value (slot kinds widths (from + i))) s (c .end) (c .at) v d
+      → xs′ ≡ set xs i v → Taking s c₀ kinds widths from count xs₀ xs′ d (i + 1)
+  took-more {v} {d} {xs′} h l o z =
       let o₂ = rw (f .same-end) at o in
       let rest = values (length xs₀ - i - 1) (slots kinds widths (from + i + 1) (count - i - 1)) in
       let same : rest ≡ values (length xs₀ - (i + 1)) (slots kinds widths (from + (i + 1)) (count - (i + 1))) = values-same kinds widths (omega arith) (omega arith) (omega arith) in
       let y = turn-as-slot h (one-more (length xs₀ - i) (slot kinds widths (from + i)) rest s (c₀ .end) (c .at) (omega (arith, f .many)) (o₂ .gives)) in
       record {
-        going = going-more (f .going) v (y ∙ ap (λ m. mapped (λ vs. v ∷ vs) (m s (c₀ .end) (d .at))) same) (take-store xs i v l);
+        going =
+            going-more (f .going) v (y ∙ ap (λ m. mapped (λ vs. v ∷ vs) (m s (c₀ .end) (d .at))) same) (ap (take (i + 1)) z ∙ take-store xs i v l);
         same-end = o₂ .ends;
         some = omega arith;
-        most = rw (length-set xs i v) (omega arith);
-        many = length-set xs i v ∙ f .many;
+        most = omega (arith, ap length z, length-set xs i v);
+        many = ap length z ∙ length-set xs i v ∙ f .many;
       }
+
+-- ---- the scalars of a record: its code, then the store's rest
+take-first : (a : ℕ) (xs : List ℕ) (n : ℕ) → 0 < n → take n (a ∷ xs) ≡ a ∷ take (n - 1) xs
+take-first a xs zero h = absurd (omega arith)
+take-first a xs (suc n) h = let z : n ≡ suc n - 1 = omega arith in ap (λ i. a ∷ take i xs) z
+
+module _ (a : ℕ) (xs : List ℕ) (i v : ℕ) {b : ℕ} {ys : List ℕ} where
+  pub set-code : i ≡ 0 → ys ≡ xs → b ≡ v → b ∷ ys ≡ set (a ∷ xs) i v
+  set-code h y z = rw (h, y, z)
+
+  pub set-rest : (i ≡ 0 → ⊥) → ys ≡ set xs (i - 1) v → b ≡ a → b ∷ ys ≡ set (a ∷ xs) i v
+  set-rest h y z = ap₂ (λ m l. m ∷ l) z y ∙ go i h
+    where
+      go : (j : ℕ) → (j ≡ 0 → ⊥) → a ∷ set xs (j - 1) v ≡ set (a ∷ xs) j v
+      go zero n = absurd (n refl)
+      go (suc j) n = let k : suc j - 1 ≡ j = omega arith in ap (λ m. a ∷ set xs m v) k
+
+pub took-scalars : {s : List ℕ} {c₀ : Cursor} {kinds widths : List ℕ} {from count a code : ℕ} {xs₀ xs : List ℕ} {c : Cursor} {i : ℕ}
+    → Taking s c₀ kinds widths from count (a ∷ xs₀) (code ∷ xs) c i → 0 < count → count ≤ i
+    → At (values (suc (length xs₀)) (slots kinds widths from count)) s (c₀ .end) (c₀ .at) (code ∷ take (count - 1) xs) c × (count - 1 ≤ length xs)
+took-scalars {count = count} {code = code} {xs = xs} f n h = let w = took f h in (rw (take-first code xs count n) at (w .0), omega (arith, w .1))

@@ -4,7 +4,7 @@ use mathlib.Core.Path.{_≡_}
 use mathlib.Core.Bool.{false}
 use mathlib.Core.List.{List, [], _∷_, _++_}
 use mathlib.Core.Option.{Option, none as nothing, some}
-use Prim.Native.Nat.{ℕ, _+_, _-_, _*_, _/_, _≤_, _<_}
+use Prim.Native.Nat.{ℕ, suc, _+_, _-_, _*_, _/_, _≤_, _<_}
 use lib.ListN.{length, take, replicate}
 use Rattle.terms.specs.Limits.{event-size, max-shared, max-local}
 use Rattle.terms.specs.Refusals.{No, no, Refusal, refusal}
@@ -12,11 +12,14 @@ use Rattle.bits.specs.Reader.{Reader, Answer, got, refused, onward, _>>=_, _>>_
 use Rattle.bits.specs.Bits.{limit, read, vbr, align}
 use Rattle.bits.specs.Told.{At, Off}
 use Rattle.bits.specs.declared.Cursor.{Cursor}
+use Rattle.bits.specs.declared.Read.{Read}
+use Rattle.bits.specs.declared.Read.the-variants as T
 use Rattle.bitcode.specs.declared.Signature.{Signature}
+use Rattle.bitcode.specs.declared.ScalarOperand.{ScalarOperand}
 use Rattle.abbrev.specs.Abbrev.{Payload, none, blob, array, Abbrev}
 use Rattle.abbrev.specs.BlockInfo.{shared-for}
 use Rattle.abbrev.specs.Tables.{Tables, shareds, block-rows}
-use Rattle.walk.specs.Record.{Load, no-load, list-load, blob-load, Record, a-record, repeated, bytes, scalar-part, unabbreviated, array-kind, rest, load-list, record-list}
+use Rattle.walk.specs.Record.{Load, no-load, list-load, blob-load, Record, a-record, values, repeated, bytes, scalar-part, unabbreviated, array-kind, rest, load-list, record-list}
 use Rattle.walk.specs.Piece.{Head, head, Piece, Pieces, Event, enter, leave, record-event, record-of, events, all-events, store, all-store, all-added, State, after}
 use Rattle.walk.specs.Item.{Context, heading, Opening, headed, begun, fits, finish, opening, complete, items, nested}
 use Rattle.walk.specs.Walk.{entry, entries, those, top-items, filled, Result, no-header}
@@ -211,6 +214,12 @@ Accepts h m ev ops r ev′ ops′ =
 abbrev pub Runs : Cursor → List ℕ → Reader No (List ℕ) → ℕ → List ℕ → Run → Type 0
 Runs c s m count rest (R.To d) = At m s (c .end) (c .at) (take count rest) d × (count ≤ length rest)
 Runs c s m count rest (R.Refused n) = Off m s (c .end) (c .at) (no n 0 0)
+
+-- the scalars of a record, as one run: the first is its code, for which there is always room, the others are the front of the store's rest
+abbrev pub Scalars : Cursor → List ℕ → ℕ → List ScalarOperand → ℕ → List ℕ → Read → Type 0
+Scalars c s left ks count rest (T.Value code d) =
+    At (values (suc left) ks) s (c .end) (c .at) (code ∷ take (count - 1) rest) d × (count - 1 ≤ length rest)
+Scalars c s left ks count rest (T.Refused n) = Off (values (suc left) ks) s (c .end) (c .at) (no n 0 0)
 
 -- a record, its scalar part and the rest
 unfoldable pub plain : ℕ → Reader No Record

@@ -34,16 +34,17 @@ use terms::TOO_DEEP;
 ghost use mathlib.Core.Path.{_≡_};
 ghost use mathlib.Core.List.{List, [], _∷_, _++_};
 ghost use mathlib.Core.Bool.{true, false};
-ghost use Prim.Native.Nat.{ℕ, _+_, _-_, _*_, _/_, _%_, _≤_, _<_};
+ghost use Prim.Native.Nat.{ℕ, _+_, _-_, _*_, _/_, _%_, _≤_, _<_, min};
 ghost use lib.ListN.{length, take, replicate};
 ghost use Rattle.terms.specs.Limits.{event-size, max-shared, max-local};
 ghost use Rattle.terms.specs.Refusals.{refusal};
 ghost use Rattle.bits.specs.Bits.{limit};
+ghost use Rattle.bitcode.specs.declared.ScalarOperand.the-variants.{Literal, Fixed, Vbr, Char6};
 ghost use Rattle.abbrev.specs.Abbrev.{array, blob};
 ghost use Rattle.abbrev.specs.Tables.{row-size, row-count, slot-count, Tables, tables, slots, abbrev-of, Whole, Kept, Below};
-ghost use Rattle.walk.specs.Record.{repeated, values, array-kind};
+ghost use Rattle.walk.specs.Record.{repeated, array-kind};
 ghost use Rattle.walk.specs.Walk.{listed as listedIn, walked};
-ghost use Rattle.walk.specs.Contracts.{entryOf, frame, marks, refusalOf, Sits, Behind, Does, openingOf, numberedOf, headedAt, Is, Runs, Recorded, plain, abbreviated, load, Loaded, blob-bytes, head-length, head-width, head-fits, Heads, Tells, Streams, Denies, Accepts, answer};
+ghost use Rattle.walk.specs.Contracts.{entryOf, frame, marks, refusalOf, Sits, Behind, Does, openingOf, numberedOf, headedAt, Is, Runs, Scalars, Recorded, plain, abbreviated, load, Loaded, blob-bytes, head-length, head-width, head-fits, Heads, Tells, Streams, Denies, Accepts, answer};
 
 // The number that records of the top level carry.
 const TOP_LEVEL_BLOCK_ID: u64 = 0xFFFF_FFFF;
@@ -305,31 +306,118 @@ fn listed(skip: &[u64], b: u64) -> bool
     }
 }
 
-// So many operands of one kind, into the part of the operand store that is not filled.
-fn fill_run(c0: Cursor, s: &[u8], k: ScalarOperand, count: u64, rest: &mut [u64]) -> Run
-    ensures { λ r. ⌜ Runs c0 (now (s .entry)) (repeated (length (now (rest .entry))) count k) count (now (rest .exit)) r ⌝ }
+// How many of so many operands have room.
+fn room_for(count: u64, room: usize) -> usize
+    ensures { λ r. ⌜ r ≡ min count room ⌝ }
 {
+    if count < room as u64 {
+        count as usize
+    } else {
+        room
+    }
+}
+
+// So many fixed fields, into the part of the operand store that is not filled: as many as have room, and then a refusal if more are wanted. Each
+// kind of operand has its own loop: in one for all, LLVM would call the reader for each operand, and such a call takes longer than the reading.
+fn fill_fixed(c0: Cursor, s: &[u8], w: u64, count: u64, rest: &mut [u64]) -> Run
+    ensures { λ r. ⌜ Runs c0 (now (s .entry)) (repeated (length (now (rest .entry))) count (Fixed w)) count (now (rest .exit)) r ⌝ }
+{
+    let n = room_for(count, rest.len());
     let mut c = c0;
     let mut i: usize = 0;
-    let mut left = count;
-    loop {
-        if left == 0 {
-            return Run::To(c);
-        }
-        if rest.len() <= i {
-            return Run::Refused(NO_OPERAND_ROOM);
-        }
-        match bitcode::read_scalar_operand(c, s, k) {
+    while i < n {
+        match c.read(s, w) {
             Read::Refused(e) => {
                 return Run::Refused(e);
             }
             Read::Value(v, d) => {
                 rest[i] = v;
                 i = i + 1;
-                left = left - 1;
                 c = d;
             }
         }
+    }
+    if (n as u64) < count {
+        return Run::Refused(NO_OPERAND_ROOM);
+    }
+    Run::To(c)
+}
+
+// The same for VBR numbers.
+fn fill_vbr(c0: Cursor, s: &[u8], w: u64, count: u64, rest: &mut [u64]) -> Run
+    ensures { λ r. ⌜ Runs c0 (now (s .entry)) (repeated (length (now (rest .entry))) count (Vbr w)) count (now (rest .exit)) r ⌝ }
+{
+    let n = room_for(count, rest.len());
+    let mut c = c0;
+    let mut i: usize = 0;
+    while i < n {
+        match c.read_vbr(s, w) {
+            Read::Refused(e) => {
+                return Run::Refused(e);
+            }
+            Read::Value(v, d) => {
+                rest[i] = v;
+                i = i + 1;
+                c = d;
+            }
+        }
+    }
+    if (n as u64) < count {
+        return Run::Refused(NO_OPERAND_ROOM);
+    }
+    Run::To(c)
+}
+
+// The same for letters.
+fn fill_char6(c0: Cursor, s: &[u8], count: u64, rest: &mut [u64]) -> Run
+    ensures { λ r. ⌜ Runs c0 (now (s .entry)) (repeated (length (now (rest .entry))) count Char6) count (now (rest .exit)) r ⌝ }
+{
+    let n = room_for(count, rest.len());
+    let mut c = c0;
+    let mut i: usize = 0;
+    while i < n {
+        match bitcode::read_char6(c, s) {
+            Read::Refused(e) => {
+                return Run::Refused(e);
+            }
+            Read::Value(v, d) => {
+                rest[i] = v;
+                i = i + 1;
+                c = d;
+            }
+        }
+    }
+    if (n as u64) < count {
+        return Run::Refused(NO_OPERAND_ROOM);
+    }
+    Run::To(c)
+}
+
+// The same for a literal, which takes no bits.
+fn fill_literal(c: Cursor, v: u64, count: u64, rest: &mut [u64]) -> Run
+    ensures { λ r. ⌜ ((s : List ℕ) → Runs c s (repeated (length (now (rest .entry))) count (Literal v)) count (now (rest .exit)) r) ⌝ }
+{
+    let n = room_for(count, rest.len());
+    let mut i: usize = 0;
+    while i < n {
+        rest[i] = v;
+        i = i + 1;
+    }
+    if (n as u64) < count {
+        return Run::Refused(NO_OPERAND_ROOM);
+    }
+    Run::To(c)
+}
+
+// So many operands of one kind, into the part of the operand store that is not filled.
+fn fill_run(c: Cursor, s: &[u8], k: ScalarOperand, count: u64, rest: &mut [u64]) -> Run
+    ensures { λ r. ⌜ Runs c (now (s .entry)) (repeated (length (now (rest .entry))) count k) count (now (rest .exit)) r ⌝ }
+{
+    match k {
+        ScalarOperand::Literal(v) => fill_literal(c, v, count, rest),
+        ScalarOperand::Fixed(w) => fill_fixed(c, s, w, count, rest),
+        ScalarOperand::Vbr(w) => fill_vbr(c, s, w, count, rest),
+        ScalarOperand::Char6 => fill_char6(c, s, count, rest),
     }
 }
 
@@ -342,13 +430,7 @@ fn read_unabbreviated(c: Cursor, s: &[u8], operands: &mut [u64], fill: usize) ->
         Read::Refused(e) => Got::Refused(e, 0, 0),
         Read::Value(code, d) => match d.read_vbr(s, 6) {
             Read::Refused(e) => Got::Refused(e, 0, 0),
-            Read::Value(n, g) => match fill_run(
-                g,
-                s,
-                ScalarOperand::Vbr(6),
-                n,
-                &mut operands[fill..],
-            ) {
+            Read::Value(n, g) => match fill_vbr(g, s, 6, n, &mut operands[fill..]) {
                 Run::Refused(e) => Got::Refused(e, 0, 0),
                 Run::To(h) => Got::Of(
                     RecordRead {
@@ -366,36 +448,43 @@ fn read_unabbreviated(c: Cursor, s: &[u8], operands: &mut [u64], fill: usize) ->
     }
 }
 
-// So many scalar operands, of the kinds that stand in the slots from `from` on, into the part of the operand store that is not filled.
-fn fill_values(
+// The code and the scalar operands of a record, `count` numbers by the kinds that stand in the slots from `base` on: the code is handed back, the
+// others go into the part of the operand store that is not filled. The code is not read apart from the others, so that LLVM has one call of the
+// reader to inline.
+fn fill_scalars(
     c0: Cursor,
     s: &[u8],
     kinds: &[u8; SLOTS],
     widths: &[u64; SLOTS],
-    from: usize,
+    base: usize,
     count: usize,
     rest: &mut [u64],
-) -> Run
-    requires { ⌜ (length (now kinds) ≡ slot-count) × (length (now widths) ≡ slot-count) × (from + count ≤ slot-count) ⌝ }
-    ensures { λ r. ⌜ Runs c0 (now (s .entry)) (values (length (now (rest .entry))) (slots (now (kinds .entry)) (now (widths .entry)) from count)) count (now (rest .exit)) r ⌝ }
+) -> Read
+    requires { ⌜ (length (now kinds) ≡ slot-count) × (length (now widths) ≡ slot-count) × (base + count ≤ slot-count) × (0 < count) ⌝ }
+    ensures { λ r. ⌜ Scalars c0 (now (s .entry)) (length (now (rest .entry))) (slots (now (kinds .entry)) (now (widths .entry)) base count) count (now (rest .exit)) r ⌝ }
 {
     let mut c = c0;
     let mut i: usize = 0;
+    let mut code: u64 = 0;
     loop {
         if count <= i {
-            return Run::To(c);
+            return Read::Value(code, c);
         }
-        if rest.len() <= i {
-            return Run::Refused(NO_OPERAND_ROOM);
+        if rest.len() < i {
+            return Read::Refused(NO_OPERAND_ROOM);
         }
-        let j = from + i;
+        let j = base + i;
         let k = abbrev::scalar_operand(kinds[j], widths[j]);
         match bitcode::read_scalar_operand(c, s, k) {
             Read::Refused(e) => {
-                return Run::Refused(e);
+                return Read::Refused(e);
             }
             Read::Value(v, d) => {
-                rest[i] = v;
+                if i == 0 {
+                    code = v;
+                } else {
+                    rest[i - 1] = v;
+                }
                 i = i + 1;
                 c = d;
             }
@@ -496,38 +585,26 @@ fn read_abbreviated(
     if n == 0 {
         return Got::Refused(INVALID_ABBREV, 0, 0);
     }
-    let first = abbrev::scalar_operand(kinds[base], widths[base]);
-    match bitcode::read_scalar_operand(c, s, first) {
+    match fill_scalars(c, s, kinds, widths, base, n, &mut operands[fill..]) {
         Read::Refused(e) => Got::Refused(e, 0, 0),
-        Read::Value(code, d) => match fill_values(
-            d,
-            s,
-            kinds,
-            widths,
-            base + 1,
-            n - 1,
-            &mut operands[fill..],
-        ) {
-            Run::Refused(e) => Got::Refused(e, 0, 0),
-            Run::To(g) => {
-                let r = RecordRead {
-                    code,
-                    count: (n - 1) as u64,
-                    kind: NO_PAYLOAD,
-                    at: 0,
-                    length: 0,
-                    fill: fill + (n - 1),
-                };
-                if l == 0 {
-                    return Got::Of(r, g);
-                }
-                if l == 1 {
-                    let k = abbrev::scalar_operand(kinds[base + n], widths[base + n]);
-                    return read_array(g, s, k, operands, r);
-                }
-                read_blob(g, s, r)
+        Read::Value(code, g) => {
+            let r = RecordRead {
+                code,
+                count: (n - 1) as u64,
+                kind: NO_PAYLOAD,
+                at: 0,
+                length: 0,
+                fill: fill + (n - 1),
+            };
+            if l == 0 {
+                return Got::Of(r, g);
             }
-        },
+            if l == 1 {
+                let k = abbrev::scalar_operand(kinds[base + n], widths[base + n]);
+                return read_array(g, s, k, operands, r);
+            }
+            read_blob(g, s, r)
+        }
     }
 }
 

@@ -1,107 +1,12 @@
-//! What the tests share: numbers by chance, a writer of bits, and a maker of logs that knows what a walk has to meet in them.
+//! What the tests share: a maker of logs that knows what a walk has to meet in them, and what it is made with (bits).
 #![allow(dead_code)]
+mod bits;
+
+pub use bits::{Bits, Chance, MAGIC};
 use gleanrime::{Event, Payload, TOP_LEVEL};
 
 /// 01's sample: a casing with a record of code 1 and the operand 2.
 pub const SAMPLE: &[u8] = b"\x42\x43\xc0\xde\x21\x0c\0\0\x01\0\0\0\x0b\x02\x01\0";
-
-pub const MAGIC: [u8; 4] = *b"BC\xc0\xde";
-
-/// Numbers by chance, the same in each run.
-pub struct Chance(u64);
-
-impl Chance {
-    pub fn new(seed: u64) -> Self {
-        Self(seed.wrapping_mul(0x9E37_79B9_7F4A_7C15) | 1)
-    }
-
-    pub fn next(&mut self) -> u64 {
-        self.0 ^= self.0 << 13;
-        self.0 ^= self.0 >> 7;
-        self.0 ^= self.0 << 17;
-        self.0.wrapping_mul(0x2545_F491_4F6C_DD1D)
-    }
-
-    pub fn below(&mut self, bound: u64) -> u64 {
-        self.next() % bound
-    }
-
-    /// A number that is small as often as large.
-    pub fn any(&mut self) -> u64 {
-        let bits = self.below(65);
-        if bits == 0 { 0 } else { self.next() >> (64 - bits) }
-    }
-}
-
-/// Bits, the first one lowest in the first byte.
-#[derive(Clone, Default)]
-pub struct Bits {
-    pub bytes: Vec<u8>,
-    pub len: usize,
-}
-
-impl Bits {
-    pub fn put(&mut self, value: u64, width: u64) {
-        for i in 0..width {
-            if self.len % 8 == 0 {
-                self.bytes.push(0);
-            }
-            *self.bytes.last_mut().unwrap() |= ((value >> i & 1) as u8) << (self.len % 8);
-            self.len += 1;
-        }
-    }
-
-    pub fn vbr(&mut self, mut value: u64, width: u64) {
-        let more = 1 << (width - 1);
-        while value >= more {
-            self.put(value & (more - 1) | more, width);
-            value >>= width - 1;
-        }
-        self.put(value, width);
-    }
-
-    pub fn align(&mut self) {
-        while self.len % 32 != 0 {
-            self.put(0, 1);
-        }
-    }
-
-    /// Puts the head of a block; the body's length in words is written by `leave` at the byte that is handed back.
-    pub fn enter(&mut self, outer: u64, number: u64, width: u64) -> usize {
-        self.put(1, outer);
-        self.vbr(number, 8);
-        self.vbr(width, 4);
-        self.align();
-        self.put(0, 32);
-        self.bytes.len() - 4
-    }
-
-    /// Ends a block that `enter` began.
-    pub fn leave(&mut self, width: u64, at: usize) {
-        self.put(0, width);
-        self.align();
-        self.close(at);
-    }
-
-    /// Ends a block without an end mark.
-    pub fn close(&mut self, at: usize) {
-        let words = (self.bytes.len() - at - 4) / 4;
-        self.bytes[at..at + 4].copy_from_slice(&(words as u32).to_le_bytes());
-    }
-
-    /// A record with no abbreviation.
-    pub fn record(&mut self, width: u64, code: u64, operands: &[u64]) {
-        self.put(3, width);
-        self.vbr(code, 6);
-        self.vbr(operands.len() as u64, 6);
-        operands.iter().for_each(|&operand| self.vbr(operand, 6));
-    }
-
-    /// The log: the magic, and these bits.
-    pub fn log(&self) -> Vec<u8> {
-        [&MAGIC[..], &self.bytes].concat()
-    }
-}
 
 /// A wrapper around a log, at this offset, with some bytes behind it.
 pub fn wrapped(log: &[u8], offset: usize) -> Vec<u8> {

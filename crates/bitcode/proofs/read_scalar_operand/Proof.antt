@@ -1,7 +1,7 @@
--- `bitcode::read_scalar_operand` meets its contract: each kind's arm calls the reader that `value` names, and a letter is the one of the six bits read. Assumes nothing.
+-- `bitcode::read_scalar_operand` meets its contract: each kind's arm calls the reader that `value` names. Assumes nothing.
 use borrow.Author.Needs.{needs}
+use Rattle.bits.proofs.Steps.{ends}
 use Rattle.bitcode.specs.Scalar.{value}
-use Rattle.bits.proofs.Steps.{on, off, ends}
 use Rattle.bitcode.proofs.read_scalar_operand.Statement.{statement}
 use Rattle.bitcode.proofs.read_scalar_operand.Tie as tie
 
@@ -23,17 +23,8 @@ read-vbr-requires c κs = search needs
 enum-told : tie.Need-enum-told
 enum-told c = search needs
 
-read-requires-2 : tie.Need-read-requires-2
-read-requires-2 c κs = search needs
-
-enum-known-e : tie.Need-enum-known-e
-enum-known-e c = search needs
-
-enum-known-v : tie.Need-enum-known-v
-enum-known-v c = search needs
-
-letter-requires : tie.Need-letter-requires
-letter-requires c κs = search needs
+read-char6-requires : tie.Need-read-char6-requires
+read-char6-requires c κs = search needs
 
 returns : tie.Need-returns
 unfolding value
@@ -49,11 +40,7 @@ returns-3 c = rw (c .before .before .operand3 .given .1) (c .read-vbr .ensures)
 
 returns-4 : tie.Need-returns-4
 unfolding value
-returns-4 c = rw (c .before .before .before .before .enum-told .given .1) (off _ (rw (c .before .e .given .1) at (c .before .before .before .read2 .ensures)))
-
-returns-5 : tie.Need-returns-5
-unfolding value
-returns-5 c = rw (c .before .before .before .before .before .enum-told .given .1) (on _ (rw (c .before .before .v .given .1) at (c .before .before .before .before .read2 .ensures)) (rw (c .letter .ensures) ends))
+returns-4 c = rw (c .before .enum-told .given .1) (c .read-char6 .ensures)
 
 pub read-scalar-operand-spec : {M : Type 1} → statement M
 read-scalar-operand-spec =
@@ -65,12 +52,8 @@ read-scalar-operand-spec =
     enum-known-operand-3
     read-vbr-requires
     enum-told
-    read-requires-2
-    enum-known-e
-    enum-known-v
-    letter-requires
+    read-char6-requires
     returns
     returns-2
     returns-3
-    returns-4
-    returns-5)
+    returns-4)

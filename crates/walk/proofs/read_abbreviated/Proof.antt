@@ -1,24 +1,77 @@
 -- `walk::read_abbreviated` meets its contract: code, operands and payload, by the abbreviation that stands in the row. Assumes nothing.
 use borrow.Author.Needs.{needs}
-use Prim.Native.Nat.{_+_, _-_, _/_, _%_, _≤_, _<_}
-use mathlib.Core.Path.{_≡_}
+use Prim.Native.Nat.{_+_, _-_, _/_, _%_, _≤_}
 use native.Mathlib.Omega.{arith}
+use mathlib.Core.Path.{_≡_}
 use denote.Ref.{now}
-use lib.ListN.{length, take}
-use lib.Seq.{length-take-le}
+use lib.ListN.{length}
 use borrow.Rule.Slice.PartMut.{putMid, mid-len}
 use Rattle.abbrev.specs.Tables.{row-size, slot}
 use Rattle.walk.specs.declared.Got.the-variants as G
-use Rattle.walk.proofs.Stores.{take-put-front}
-use Rattle.walk.proofs.Records.{no-scalar, code-off, values-off, load-told, none-loads, array-told, blob-told}
+use Rattle.walk.proofs.Records.{no-scalar, scalars-off, load-told, none-loads, array-told, blob-told}
 use Rattle.walk.proofs.read_abbreviated.Statement.{statement}
 use Rattle.walk.proofs.read_abbreviated.Tie as tie
 
 returns : tie.Need-returns
 returns c = no-scalar _ _ _ _ _ (c .if1 .taken)
 
+mul-fill-scalars : tie.Need-mul-fill-scalars
+mul-fill-scalars c = search needs
+
+sub-fill-scalars : tie.Need-sub-fill-scalars
+sub-fill-scalars c = search needs
+
+part-fill-scalars-start : tie.Need-part-fill-scalars-start
+part-fill-scalars-start c = search needs
+
+part-fill-scalars-end : tie.Need-part-fill-scalars-end
+part-fill-scalars-end c = search needs
+
+fill-scalars-requires : tie.Need-fill-scalars-requires
+fill-scalars-requires c κs = search needs
+
+enum-known-e : tie.Need-enum-known-e
+enum-known-e c = search needs
+
+enum-known-code : tie.Need-enum-known-code
+enum-known-code c = search needs
+
+sub-t25 : tie.Need-sub-t25
+sub-t25 c = search needs
+
+sub-t27 : tie.Need-sub-t27
+sub-t27 c = search needs
+
+add-t28 : tie.Need-add-t28
+add-t28 c = search needs
+
+same-length : tie.Need-same-length
+same-length c = search needs
+
+returns-2 : tie.Need-returns-2
+returns-2 c =
+    let p = c .before .before .before .before .before .before .before .before .before .before .before in
+    let a = p .args in
+    let ops = now (a .operands) in
+    let fill = a .fill in
+    let n = a .shape % row-size in
+    let e = mid-len fill (length ops) ops (omega arith) in
+    let z = rw e at (rw (c .before .before .code .given .1) at (c .before .before .before .before .before .before .fill-scalars .ensures)) in
+    let ys = c .before .before .before .before .before .before .fill-scalars .last .1 .1 .1 .1 .1 .1 .0 in
+    let ops1 = putMid fill (length ops - fill) ops ys in
+    let o = c .before .before .before .before .before .operands .given in
+    let h : fill + (n - 1) ≤ length ops1 = omega (arith, p .pre .3, o .0, o .1, e, z .1) in
+    let l = none-loads _ (a .shape / row-size) _ (n - 1) (fill + (n - 1)) _ ops1 (c .if2 .taken) h in
+    load-told (length ops - fill) (now (a .kinds)) (now (a .widths)) (a .base) (a .shape) fill ys ops ops1 (G.Of _ _) (p .pre .3) (z .0) (z .1) l
+
+add-scalar-operand : tie.Need-add-scalar-operand
+add-scalar-operand c = search needs
+
 element-copy-out-scalar-operand : tie.Need-element-copy-out-scalar-operand
 element-copy-out-scalar-operand c = search needs
+
+add-scalar-operand-2 : tie.Need-add-scalar-operand-2
+add-scalar-operand-2 c = search needs
 
 mul-scalar-operand : tie.Need-mul-scalar-operand
 mul-scalar-operand c = search needs
@@ -29,209 +82,96 @@ element-copy-out-scalar-operand-2 c = search needs
 scalar-operand-requires : tie.Need-scalar-operand-requires
 scalar-operand-requires c κs = search needs
 
-read-scalar-operand-requires : tie.Need-read-scalar-operand-requires
-read-scalar-operand-requires c κs = search needs
-
-enum-known-e : tie.Need-enum-known-e
-enum-known-e c = search needs
-
-enum-known-code : tie.Need-enum-known-code
-enum-known-code c = search needs
-
-add-fill-values : tie.Need-add-fill-values
-add-fill-values c = search needs
-
-sub-fill-values : tie.Need-sub-fill-values
-sub-fill-values c = search needs
-
-mul-fill-values : tie.Need-mul-fill-values
-mul-fill-values c = search needs
-
-sub-fill-values-2 : tie.Need-sub-fill-values-2
-sub-fill-values-2 c = search needs
-
-part-fill-values-start : tie.Need-part-fill-values-start
-part-fill-values-start c = search needs
-
-part-fill-values-end : tie.Need-part-fill-values-end
-part-fill-values-end c = search needs
-
-fill-values-requires : tie.Need-fill-values-requires
-fill-values-requires c κs = search needs
-
-enum-known-e-2 : tie.Need-enum-known-e-2
-enum-known-e-2 c = search needs
-
-enum-known-g : tie.Need-enum-known-g
-enum-known-g c = search needs
-
-sub-t38 : tie.Need-sub-t38
-sub-t38 c = search needs
-
-sub-t40 : tie.Need-sub-t40
-sub-t40 c = search needs
-
-add-t41 : tie.Need-add-t41
-add-t41 c =
-    let a = c .before .before .before .before .before .before .before .before .before .before .before .before .before .before .before .before .before .args in
-    let ops = now (a .operands) in
-    let e = mid-len (a .fill) (length ops) ops (omega arith) in
-    let z = rw e at (rw (c .before .g .given .1) at (c .before .before .before .before .before .fill-values .ensures)) in
-    record { fits = omega (arith, c .before .before .before .before .before .before .before .before .before .before .before .before .before .before .before .before .before .good .1 .1 .1 .1 .1 .1 .0, c .before .before .before .before .operands .given .0, e, z .1) }
-
-same-length : tie.Need-same-length
-same-length c = search needs
-
-returns-2 : tie.Need-returns-2
-returns-2 c =
-    let a = c .before .before .before .before .before .before .before .before .before .before .before .before .before .before .before .before .before .before .args in
-    let ops = now (a .operands) in
-    let fill = a .fill in
-    let e = mid-len fill (length ops) ops (omega arith) in
-    let x = rw (c .before .before .before .before .before .before .before .before .before .before .before .before .scalar-operand .ensures) at (rw (c .before .before .before .before .before .before .before .before .before .code .given .1) at (c .before .before .before .before .before .before .before .before .before .before .before .read-scalar-operand .ensures)) in
-    let z = rw e at (rw (c .before .before .g .given .1) at (c .before .before .before .before .before .before .fill-values .ensures)) in
-    let n = a .shape % row-size in
-    let ys = c .before .before .before .before .before .before .fill-values .last .1 .1 .1 .1 .1 .1 .0 in
-    let ops1 = putMid fill (length ops - fill) ops ys in
-    let pr = c .before .before .before .before .before .before .before .before .before .before .before .before .before .before .before .before .before .before .pre in
-    let some : 0 < n = omega (arith, c .before .before .before .before .before .before .before .before .before .before .before .before .before .before .before .if1 .left) in
-    let l = length-take-le (n - 1) ys (z .1) in
-    let w = take-put-front fill (length ops - fill) (n - 1) ops ys (pr .3) (z .1) in
-    let o0 = c .before .before .before .before .before .operands .given .0 in
-    let o1 = c .before .before .before .before .before .operands .given .1 in
-    let h : fill + (n - 1) ≤ length ops1 = omega (arith, pr .3, some, o0, o1, e, z .1) in
-    load-told (length ops - fill) (now (a .kinds)) (now (a .widths)) (a .base) (a .shape) some fill (take (n - 1) ys) ops ops1 ops1 (G.Of _ _) x (z .0) l w (none-loads _ (a .shape / row-size) _ (n - 1) (fill + (n - 1)) _ ops1 (c .if2 .taken) h)
-
-add-scalar-operand : tie.Need-add-scalar-operand
-add-scalar-operand c = search needs
-
-element-copy-out-scalar-operand-3 : tie.Need-element-copy-out-scalar-operand-3
-element-copy-out-scalar-operand-3 c = search needs
-
-add-scalar-operand-2 : tie.Need-add-scalar-operand-2
-add-scalar-operand-2 c = search needs
-
-mul-scalar-operand-2 : tie.Need-mul-scalar-operand-2
-mul-scalar-operand-2 c = search needs
-
-element-copy-out-scalar-operand-4 : tie.Need-element-copy-out-scalar-operand-4
-element-copy-out-scalar-operand-4 c = search needs
-
-scalar-operand-requires-2 : tie.Need-scalar-operand-requires-2
-scalar-operand-requires-2 c κs = search needs
-
 read-array-requires : tie.Need-read-array-requires
 read-array-requires c κs =
-    let a = c .before .before .before .before .before .before .before .before .before .before .before .before .before .before .before .before .before .before .before .before .before .before .before .args in
-    let ops = now (a .operands) in
-    let fill = a .fill in
-    let e = mid-len fill (length ops) ops (omega arith) in
-    let z = rw e at (rw (c .before .before .before .before .before .before .before .g .given .1) at (c .before .before .before .before .before .before .before .before .before .before .before .fill-values .ensures)) in
-    omega (arith, c .before .before .before .before .before .before .before .before .before .before .before .before .before .before .before .before .before .before .before .before .before .before .before .pre .3, c .before .before .before .before .before .before .before .before .before .before .before .before .before .before .before .before .before .before .before .before .if1 .left, c .before .before .before .before .before .before .before .before .before .before .operands .given .0, c .before .before .before .before .before .before .before .before .before .before .operands .given .1, e, z .1)
+    let p = c .before .before .before .before .before .before .before .before .before .before .before .before .before .before .before .before in
+    let ops = now (p .args .operands) in
+    let e = mid-len (p .args .fill) (length ops) ops (omega arith) in
+    let z = rw e at (rw (c .before .before .before .before .before .before .before .code .given .1) at (c .before .before .before .before .before .before .before .before .before .before .before .fill-scalars .ensures)) in
+    let o = c .before .before .before .before .before .before .before .before .before .before .operands .given in
+    omega (arith, p .pre .3, o .0, o .1, e, z .1)
 
 same-length-2 : tie.Need-same-length-2
 same-length-2 c = search needs
 
 returns-3 : tie.Need-returns-3
 returns-3 c =
-    let a = c .before .before .before .before .before .before .before .before .before .before .before .before .before .before .before .before .before .before .before .before .before .before .before .before .before .before .args in
+    let p = c .before .before .before .before .before .before .before .before .before .before .before .before .before .before .before .before .before .before .before in
+    let a = p .args in
     let ops = now (a .operands) in
     let fill = a .fill in
-    let e = mid-len fill (length ops) ops (omega arith) in
-    let x = rw (c .before .before .before .before .before .before .before .before .before .before .before .before .before .before .before .before .before .before .before .before .scalar-operand .ensures) at (rw (c .before .before .before .before .before .before .before .before .before .before .before .before .before .before .before .before .before .code .given .1) at (c .before .before .before .before .before .before .before .before .before .before .before .before .before .before .before .before .before .before .before .read-scalar-operand .ensures)) in
-    let z = rw e at (rw (c .before .before .before .before .before .before .before .before .before .before .g .given .1) at (c .before .before .before .before .before .before .before .before .before .before .before .before .before .before .fill-values .ensures)) in
     let n = a .shape % row-size in
-    let ys = c .before .before .before .before .before .before .before .before .before .before .before .before .before .before .fill-values .last .1 .1 .1 .1 .1 .1 .0 in
+    let e = mid-len fill (length ops) ops (omega arith) in
+    let z = rw e at (rw (c .before .before .before .before .before .before .before .before .before .before .code .given .1) at (c .before .before .before .before .before .before .before .before .before .before .before .before .before .before .fill-scalars .ensures)) in
+    let ys = c .before .before .before .before .before .before .before .before .before .before .before .before .before .before .fill-scalars .last .1 .1 .1 .1 .1 .1 .0 in
     let ops1 = putMid fill (length ops - fill) ops ys in
-    let pr = c .before .before .before .before .before .before .before .before .before .before .before .before .before .before .before .before .before .before .before .before .before .before .before .before .before .before .pre in
-    let some : 0 < n = omega (arith, c .before .before .before .before .before .before .before .before .before .before .before .before .before .before .before .before .before .before .before .before .before .before .before .if1 .left) in
-    let l = length-take-le (n - 1) ys (z .1) in
-    let w = take-put-front fill (length ops - fill) (n - 1) ops ys (pr .3) (z .1) in
-    let o0 = c .before .before .before .before .before .before .before .before .before .before .before .before .before .operands .given .0 in
-    let o1 = c .before .before .before .before .before .before .before .before .before .before .before .before .before .operands .given .1 in
-    let q : length ops1 - (fill + (n - 1)) ≡ length ops - fill - length (take (n - 1) ys) = omega (arith, pr .3, some, o0, o1, e, l, z .1) in
-    load-told (length ops - fill) (now (a .kinds)) (now (a .widths)) (a .base) (a .shape) some fill (take (n - 1) ys) ops ops1 _ (c .before .before .read-array .result) x (z .0) l w (array-told _ _ _ _ (a .shape / row-size) (slot (now (a .kinds)) (now (a .widths)) (a .base + n)) ops1 _ _ (c .before .before .read-array .result) (c .before .before .before .before .before .before .before .if3 .taken) q (rw (c .before .before .before .before .scalar-operand2 .ensures) at (c .before .before .read-array .ensures)))
+    let o = c .before .before .before .before .before .before .before .before .before .before .before .before .before .operands .given in
+    let q : length ops1 - (fill + (n - 1)) ≡ length ops - fill - (n - 1) = omega (arith, p .pre .3, o .0, o .1, e, z .1) in
+    let t = c .before .before .read-array in
+    let k = slot (now (a .kinds)) (now (a .widths)) (a .base + n) in
+    let l = array-told _ _ _ _ (a .shape / row-size) k ops1 _ _ (t .result) (c .before .before .before .before .before .before .before .if3 .taken) q (rw (c .before .before .before .before .scalar-operand .ensures) at (t .ensures)) in
+    load-told (length ops - fill) (now (a .kinds)) (now (a .widths)) (a .base) (a .shape) fill ys ops _ (t .result) (p .pre .3) (z .0) (z .1) l
 
 read-blob-requires : tie.Need-read-blob-requires
 read-blob-requires c κs = search needs
 
-returns-4 : tie.Need-returns-4
-returns-4 c = code-off _ _ _ _ _ (omega arith) (rw (c .before .before .before .before .scalar-operand .ensures) at (rw (c .before .e .given .1) at (c .before .before .before .read-scalar-operand .ensures)))
-
 same-length-3 : tie.Need-same-length-3
 same-length-3 c = search needs
 
-returns-5 : tie.Need-returns-5
-returns-5 c =
-    let a = c .before .before .before .before .before .before .before .before .before .before .before .before .before .before .before .before .before .args in
-    let ops = now (a .operands) in
-    let fill = a .fill in
-    let e = mid-len fill (length ops) ops (omega arith) in
-    let x = rw (c .before .before .before .before .before .before .before .before .before .before .before .scalar-operand .ensures) at (rw (c .before .before .before .before .before .before .before .before .code .given .1) at (c .before .before .before .before .before .before .before .before .before .before .read-scalar-operand .ensures)) in
-    let z = rw e at (rw (c .before .e2 .given .1) at (c .before .before .before .before .before .fill-values .ensures)) in
-    values-off _ _ _ _ _ (omega arith) x z
+returns-4 : tie.Need-returns-4
+returns-4 c =
+    let a = c .before .before .before .before .before .before .before .before .before .before .args in
+    let e = mid-len (a .fill) (length (now (a .operands))) (now (a .operands)) (omega arith) in
+    scalars-off _ _ _ _ _ (rw e at (rw (c .before .e .given .1) at (c .before .before .before .before .before .fill-scalars .ensures)))
 
 same-length-4 : tie.Need-same-length-4
 same-length-4 c = search needs
 
-returns-6 : tie.Need-returns-6
-returns-6 c =
-    let a = c .before .before .before .before .before .before .before .before .before .before .before .before .before .before .before .before .before .before .before .before .args in
+returns-5 : tie.Need-returns-5
+returns-5 c =
+    let p = c .before .before .before .before .before .before .before .before .before .before .before .before .before in
+    let a = p .args in
     let ops = now (a .operands) in
     let fill = a .fill in
-    let e = mid-len fill (length ops) ops (omega arith) in
-    let x = rw (c .before .before .before .before .before .before .before .before .before .before .before .before .before .before .scalar-operand .ensures) at (rw (c .before .before .before .before .before .before .before .before .before .before .before .code .given .1) at (c .before .before .before .before .before .before .before .before .before .before .before .before .before .read-scalar-operand .ensures)) in
-    let z = rw e at (rw (c .before .before .before .before .g .given .1) at (c .before .before .before .before .before .before .before .before .fill-values .ensures)) in
     let n = a .shape % row-size in
-    let ys = c .before .before .before .before .before .before .before .before .fill-values .last .1 .1 .1 .1 .1 .1 .0 in
+    let e = mid-len fill (length ops) ops (omega arith) in
+    let z = rw e at (rw (c .before .before .before .before .code .given .1) at (c .before .before .before .before .before .before .before .before .fill-scalars .ensures)) in
+    let ys = c .before .before .before .before .before .before .before .before .fill-scalars .last .1 .1 .1 .1 .1 .1 .0 in
     let ops1 = putMid fill (length ops - fill) ops ys in
-    let pr = c .before .before .before .before .before .before .before .before .before .before .before .before .before .before .before .before .before .before .before .before .pre in
-    let some : 0 < n = omega (arith, c .before .before .before .before .before .before .before .before .before .before .before .before .before .before .before .before .before .if1 .left) in
-    let l = length-take-le (n - 1) ys (z .1) in
-    let w = take-put-front fill (length ops - fill) (n - 1) ops ys (pr .3) (z .1) in
-    let o0 = c .before .before .before .before .before .before .before .operands .given .0 in
-    let o1 = c .before .before .before .before .before .before .before .operands .given .1 in
-    let h : fill + (n - 1) ≤ length ops1 = omega (arith, pr .3, some, o0, o1, e, z .1) in
-    load-told (length ops - fill) (now (a .kinds)) (now (a .widths)) (a .base) (a .shape) some fill (take (n - 1) ys) ops ops1 ops1 (c .read-blob .result) x (z .0) l w (blob-told _ _ _ (a .shape / row-size) _ ops1 ops1 _ (c .read-blob .result) (c .before .before .if2 .left) (c .before .if3 .left) (c .read-blob .ensures _ ops1 h))
+    let o = c .before .before .before .before .before .before .before .operands .given in
+    let h : fill + (n - 1) ≤ length ops1 = omega (arith, p .pre .3, o .0, o .1, e, z .1) in
+    let t = c .read-blob in
+    let l = blob-told _ _ _ (a .shape / row-size) _ ops1 ops1 _ (t .result) (c .before .before .if2 .left) (c .before .if3 .left) (t .ensures _ ops1 h) in
+    load-told (length ops - fill) (now (a .kinds)) (now (a .widths)) (a .base) (a .shape) fill ys ops ops1 (t .result) (p .pre .3) (z .0) (z .1) l
 
 pub read-abbreviated-spec : {M : Type 1} → statement M
 read-abbreviated-spec =
     tie.close
     (tie.spec
     returns
-    element-copy-out-scalar-operand
-    mul-scalar-operand
-    element-copy-out-scalar-operand-2
-    scalar-operand-requires
-    read-scalar-operand-requires
+    mul-fill-scalars
+    sub-fill-scalars
+    part-fill-scalars-start
+    part-fill-scalars-end
+    fill-scalars-requires
     enum-known-e
     enum-known-code
-    add-fill-values
-    sub-fill-values
-    mul-fill-values
-    sub-fill-values-2
-    part-fill-values-start
-    part-fill-values-end
-    fill-values-requires
-    enum-known-e-2
-    enum-known-g
-    sub-t38
-    sub-t40
-    add-t41
+    sub-t25
+    sub-t27
+    add-t28
     same-length
     returns-2
     add-scalar-operand
-    element-copy-out-scalar-operand-3
+    element-copy-out-scalar-operand
     add-scalar-operand-2
-    mul-scalar-operand-2
-    element-copy-out-scalar-operand-4
-    scalar-operand-requires-2
+    mul-scalar-operand
+    element-copy-out-scalar-operand-2
+    scalar-operand-requires
     read-array-requires
     same-length-2
     returns-3
     read-blob-requires
-    returns-4
     same-length-3
-    returns-5
+    returns-4
     same-length-4
-    returns-6)
+    returns-5)

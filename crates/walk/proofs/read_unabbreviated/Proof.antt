@@ -31,20 +31,20 @@ enum-known-e-2 c = search needs
 enum-known-n : tie.Need-enum-known-n
 enum-known-n c = search needs
 
-mul-fill-run : tie.Need-mul-fill-run
-mul-fill-run c = search needs
+mul-fill-vbr : tie.Need-mul-fill-vbr
+mul-fill-vbr c = search needs
 
-sub-fill-run : tie.Need-sub-fill-run
-sub-fill-run c = search needs
+sub-fill-vbr : tie.Need-sub-fill-vbr
+sub-fill-vbr c = search needs
 
-part-fill-run-start : tie.Need-part-fill-run-start
-part-fill-run-start c = search needs
+part-fill-vbr-start : tie.Need-part-fill-vbr-start
+part-fill-vbr-start c = search needs
 
-part-fill-run-end : tie.Need-part-fill-run-end
-part-fill-run-end c = search needs
+part-fill-vbr-end : tie.Need-part-fill-vbr-end
+part-fill-vbr-end c = search needs
 
-fill-run-requires : tie.Need-fill-run-requires
-fill-run-requires c κs = search needs
+fill-vbr-requires : tie.Need-fill-vbr-requires
+fill-vbr-requires c κs = search needs
 
 enum-known-e-3 : tie.Need-enum-known-e-3
 enum-known-e-3 c = search needs
@@ -52,13 +52,13 @@ enum-known-e-3 c = search needs
 enum-known-h : tie.Need-enum-known-h
 enum-known-h c = search needs
 
-add-t26 : tie.Need-add-t26
-add-t26 c =
+add-t25 : tie.Need-add-t25
+add-t25 c =
     let a = c .before .before .before .before .before .before .before .before .before .before .before .before .before .before .before .before .before .args in
     let ops = now (a .operands) in
     let fill = a .fill in
     let e = mid-len fill (length ops) ops (omega arith) in
-    let z = rw e at (rw (c .before .h .given .1) at (c .before .before .before .before .before .fill-run .ensures)) in
+    let z = rw e at (rw (c .before .h .given .1) at (c .before .before .before .before .before .fill-vbr .ensures)) in
     record { fits = omega (arith, c .before .before .before .before .before .before .before .before .before .before .before .before .before .before .before .before .before .good .1 .1 .0, c .before .before .before .before .operands .given .0, e, z .1) }
 
 returns : tie.Need-returns
@@ -79,7 +79,7 @@ returns-3 c =
     let ops = now (a .operands) in
     let fill = a .fill in
     let e = mid-len fill (length ops) ops (omega arith) in
-    let z = rw e at (rw (c .before .e3 .given .1) at (c .before .before .before .before .before .fill-run .ensures)) in
+    let z = rw e at (rw (c .before .e3 .given .1) at (c .before .before .before .before .before .fill-vbr .ensures)) in
     off _ (then-off _ (rw (c .before .before .before .before .before .before .before .before .before .before .before .before .code .given .1) at (c .before .before .before .before .before .before .before .before .before .before .before .before .before .before .read-vbr .ensures)) (then-off _ (rw (c .before .before .before .before .before .before .before .before .n .given .1) at (c .before .before .before .before .before .before .before .before .before .before .read-vbr2 .ensures)) (off _ z)))
 
 same-length-2 : tie.Need-same-length-2
@@ -91,8 +91,8 @@ returns-4 c =
     let ops = now (a .operands) in
     let fill = a .fill in
     let e = mid-len fill (length ops) ops (omega arith) in
-    let z = rw e at (rw (c .before .h .given .1) at (c .before .before .before .before .before .fill-run .ensures)) in
-    let ys = c .before .before .before .before .before .fill-run .last .1 .1 .1 .1 .0 in
+    let z = rw e at (rw (c .before .h .given .1) at (c .before .before .before .before .before .fill-vbr .ensures)) in
+    let ys = c .before .before .before .before .before .fill-vbr .last .1 .1 .1 .1 .0 in
     plain-reads ops _ ys fill (rw (c .before .before .before .before .before .before .before .before .before .before .before .before .code .given .1) at (c .before .before .before .before .before .before .before .before .before .before .before .before .before .before .read-vbr .ensures)) (rw (c .before .before .before .before .before .before .before .before .n .given .1) at (c .before .before .before .before .before .before .before .before .before .before .read-vbr2 .ensures)) (z .0) (z .1) (take-put-front fill (length ops - fill) _ ops ys (omega arith) (z .1)) (omega (arith, c .before .before .before .before .operands .given .0, c .before .before .before .before .operands .given .1, e, z .1))
 
 pub read-unabbreviated-spec : {M : Type 1} → statement M
@@ -105,14 +105,14 @@ read-unabbreviated-spec =
     read-vbr-requires-2
     enum-known-e-2
     enum-known-n
-    mul-fill-run
-    sub-fill-run
-    part-fill-run-start
-    part-fill-run-end
-    fill-run-requires
+    mul-fill-vbr
+    sub-fill-vbr
+    part-fill-vbr-start
+    part-fill-vbr-end
+    fill-vbr-requires
     enum-known-e-3
     enum-known-h
-    add-t26
+    add-t25
     returns
     returns-2
     same-length

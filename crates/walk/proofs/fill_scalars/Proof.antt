@@ -1,16 +1,18 @@
--- `walk::fill_values` meets its contract: an abbreviation's operands stand in the front of the store's rest. Assumes nothing.
+-- `walk::fill_scalars` meets its contract: the code, and the operands in the front of the store's rest. Assumes nothing.
 use borrow.Author.Needs.{needs}
 use Prim.Native.Nat.{_-_}
+use mathlib.Core.List.{_∷_}
+use mathlib.Core.Logic.{⊎-elim}
 use native.Mathlib.Omega.{arith}
-use Rattle.walk.proofs.Runs.{Taking, taking-start, took, took-full, took-off, took-more}
-use Rattle.walk.proofs.fill_values.Statement.{statement}
-use Rattle.walk.proofs.fill_values.Tie as tie
+use Rattle.walk.proofs.Runs.{Taking, taking-start, took-full, took-off, took-more, took-scalars, set-code, set-rest}
+use Rattle.walk.proofs.fill_scalars.Statement.{statement}
+use Rattle.walk.proofs.fill_scalars.Tie as tie
 
 abbrev Inv-loop : tie.InvT-loop
-Inv-loop s kinds widths from count rest₀ c₀ i₀ rest c i = Taking s c₀ kinds widths from count rest₀ rest c i
+Inv-loop s kinds widths base count rest₀ c₀ i₀ code₀ rest c i code = Taking s c₀ kinds widths base count (code₀ ∷ rest₀) (code ∷ rest) c i
 
 abbrev μ-loop : tie.MeasureT-loop
-μ-loop s kinds widths from count rest₀ c₀ i₀ rest c i = count - i
+μ-loop s kinds widths base count rest₀ c₀ i₀ code₀ rest c i code = count - i
 
 loop-holds : tie.Need-loop-holds Inv-loop μ-loop
 loop-holds c = taking-start _ _ _ _ _ _ _
@@ -19,13 +21,13 @@ same-length : tie.Need-same-length Inv-loop μ-loop
 same-length c = search needs
 
 returns : tie.Need-returns Inv-loop μ-loop
-returns c = took (c .before .loop .inv) (c .if1 .taken)
+returns c = took-scalars (c .before .loop .inv) (omega arith) (c .if1 .taken)
 
 same-length-2 : tie.Need-same-length-2 Inv-loop μ-loop
 same-length-2 c = search needs
 
 returns-2 : tie.Need-returns-2 Inv-loop μ-loop
-returns-2 c = took-full (c .before .before .loop .inv) (omega arith) (c .if2 .taken)
+returns-2 c = took-full (c .before .before .loop .inv) (omega arith) (omega arith)
 
 add-j : tie.Need-add-j Inv-loop μ-loop
 add-j c = search needs
@@ -52,10 +54,15 @@ same-length-3 : tie.Need-same-length-3 Inv-loop μ-loop
 same-length-3 c = search needs
 
 returns-3 : tie.Need-returns-3 Inv-loop μ-loop
-returns-3 c = took-off (c .before .before .before .before .before .before .before .before .before .loop .inv) (omega arith) (omega arith) (rw (c .before .before .before .before .scalar-operand .ensures) at (rw (c .before .e .given .1) at (c .before .before .before .read-scalar-operand .ensures)))
+returns-3 c =
+    let x = rw (c .before .before .before .before .scalar-operand .ensures) at (rw (c .before .e .given .1) at (c .before .before .before .read-scalar-operand .ensures)) in
+    took-off (c .before .before .before .before .before .before .before .before .before .loop .inv) (omega arith) (omega arith) x
 
 enum-known-v : tie.Need-enum-known-v Inv-loop μ-loop
 enum-known-v c = search needs
+
+sub-rest : tie.Need-sub-rest Inv-loop μ-loop
+sub-rest c = search needs
 
 mul-rest : tie.Need-mul-rest Inv-loop μ-loop
 mul-rest c = search needs
@@ -70,10 +77,15 @@ loop-less : tie.Need-loop-less Inv-loop μ-loop
 loop-less c = search needs
 
 loop-again : tie.Need-loop-again Inv-loop μ-loop
-loop-again c = took-more (c .before .before .before .before .before .before .before .before .before .loop .inv) (omega arith) (omega arith) (rw (c .before .before .before .before .scalar-operand .ensures) at (rw (c .before .v .given .1) at (c .before .before .before .read-scalar-operand .ensures)))
+loop-again c =
+    let l = c .before .before .before .before .before .before .before .before .before .before .loop in
+    let v = c .before .before .v .given .0 .0 in
+    let x = rw (c .before .before .before .before .before .scalar-operand .ensures) at (rw (c .before .before .v .given .1) at (c .before .before .before .before .read-scalar-operand .ensures)) in
+    let put = ⊎-elim (λ w. set-code (l .code) (l .rest) (l .i) v (w .0 .taken) (w .1) (w .2)) (λ w. set-rest (l .code) (l .rest) (l .i) v (w .0 .left) (w .1) (w .2)) (c .if3 .came) in
+    took-more (l .inv) (omega arith) (omega arith) x put
 
-pub fill-values-spec : {M : Type 1} → statement M
-fill-values-spec =
+pub fill-scalars-spec : {M : Type 1} → statement M
+fill-scalars-spec =
     tie.close
     (tie.spec
     Inv-loop
@@ -93,6 +105,7 @@ fill-values-spec =
     same-length-3
     returns-3
     enum-known-v
+    sub-rest
     mul-rest
     slice-write-rest
     add-i
