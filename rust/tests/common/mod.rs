@@ -1,5 +1,5 @@
 //! What the tests share: a maker of logs that knows what a walk has to meet in them, and what it is made with (bits).
-#![allow(dead_code)]
+#![allow(dead_code, unused_imports)]
 mod bits;
 
 pub use bits::{Bits, Chance, MAGIC};
