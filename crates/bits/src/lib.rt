@@ -142,7 +142,8 @@ fn field_far(s: &[u8], p: u64, n: u64) -> u64
     x + (rest << m)
 }
 
-// The field of n bits at the place p: by one load where eight bytes are there and hold it all.
+// The field of n bits at the place p: by one load where eight bytes are there and hold it all. The cold call is lent the whole slice anew, so that
+// LLVM puts its address and length into memory on the way to that call only.
 fn field_at(s: &[u8], p: u64, n: u64) -> u64
     requires { ⌜ (1 ≤ n) × (n ≤ 64) × (p + n ≤ 2 ^ 32) ⌝ }
     ensures { λ r. ⌜ r ≡ field (now (s .entry)) p n ⌝ }
@@ -153,10 +154,10 @@ fn field_at(s: &[u8], p: u64, n: u64) -> u64
         if k + n <= 64 {
             low(eight_there(s, b) >> k, n)
         } else {
-            field_far(s, p, n)
+            field_far(&s[0..], p, n)
         }
     } else {
-        field_far(s, p, n)
+        field_far(&s[0..], p, n)
     }
 }
 
