@@ -3,38 +3,7 @@
 #[path = "../../rust/tests/common/bits.rs"]
 mod bits;
 
-use bits::{Bits, Chance, MAGIC};
-
-/// An operand of an abbreviation.
-enum Operand {
-    Literal(u64),
-    Fixed(u64),
-    Vbr(u64),
-    Array,
-    Char6,
-    Blob,
-}
-
-fn define(bits: &mut Bits, width: u64, operands: &[Operand]) {
-    bits.put(2, width);
-    bits.vbr(operands.len() as u64, 5);
-    for operand in operands {
-        let (kind, operand_width) = match *operand {
-            Operand::Literal(value) => {
-                bits.put(1, 1);
-                bits.vbr(value, 8);
-                continue;
-            }
-            Operand::Fixed(width) => (1, Some(width)),
-            Operand::Vbr(width) => (2, Some(width)),
-            Operand::Array => (3, None),
-            Operand::Char6 => (4, None),
-            Operand::Blob => (5, None),
-        };
-        bits.put(kind << 1, 4);
-        operand_width.into_iter().for_each(|width| bits.vbr(width, 5));
-    }
-}
+use bits::{Bits, Chance, MAGIC, Operand};
 
 /// A block around what `body` puts.
 fn block(bits: &mut Bits, outer: u64, number: u64, width: u64, body: impl FnOnce(&mut Bits)) {
@@ -76,9 +45,9 @@ fn small(bits: &mut Bits, i: u64, chance: &mut Chance) {
 fn shared_layout(bits: &mut Bits) {
     block(bits, 2, 0, 3, |bits| {
         bits.record(3, 1, &[CASING]);
-        define(bits, 3, &[Operand::Literal(1), Operand::Vbr(6), Operand::Fixed(5), Operand::Vbr(6)]);
-        define(bits, 3, &[Operand::Literal(5), Operand::Fixed(3), Operand::Array, Operand::Fixed(8)]);
-        define(bits, 3, &[Operand::Literal(6), Operand::Array, Operand::Char6]);
+        bits.define(3, &[Operand::Literal(1), Operand::Vbr(6), Operand::Fixed(5), Operand::Vbr(6)]);
+        bits.define(3, &[Operand::Literal(5), Operand::Fixed(3), Operand::Array, Operand::Fixed(8)]);
+        bits.define(3, &[Operand::Literal(6), Operand::Array, Operand::Char6]);
     });
 }
 
@@ -104,7 +73,7 @@ fn with_shared(bits: &mut Bits, i: u64, chance: &mut Chance) {
 
 fn with_local(bits: &mut Bits, i: u64, chance: &mut Chance) {
     block(bits, 2, CASING, 3, |bits| {
-        define(bits, 3, &[Operand::Fixed(4), Operand::Vbr(6), Operand::Fixed(8)]);
+        bits.define(3, &[Operand::Fixed(4), Operand::Vbr(6), Operand::Fixed(8)]);
         for code in 1..=4 {
             bits.put(4, 3);
             bits.put(code, 4);
@@ -117,7 +86,7 @@ fn with_local(bits: &mut Bits, i: u64, chance: &mut Chance) {
 fn image_layout(bits: &mut Bits) {
     block(bits, 2, 0, 3, |bits| {
         bits.record(3, 1, &[IMAGE]);
-        define(bits, 3, &[Operand::Literal(7), Operand::Vbr(6), Operand::Blob]);
+        bits.define(3, &[Operand::Literal(7), Operand::Vbr(6), Operand::Blob]);
     });
 }
 

@@ -1,7 +1,7 @@
 //! Events: 01's sample, logs that a maker made and what it put into them, wrappers, blobs, the skip list, stores and visitors.
 mod common;
 
-use common::{Bits, Chance, Load, MAGIC, Met, SAMPLE, make, wrapped};
+use common::{Bits, Chance, Load, MAGIC, Met, Operand, SAMPLE, make, wrapped};
 use gleanrime::{EVENT_SIZE, Event, Header, Log, Payload, Record, Refusal, Stores, TOP_LEVEL, Visitor, WRAPPER_MAGIC, header, walk};
 
 #[test]
@@ -93,12 +93,7 @@ fn a_blob_is_that_very_part_of_the_input() {
 fn letters_are_text() {
     let mut bits = Bits::default();
     let at = bits.enter(2, 8, 3);
-    bits.put(2, 3);
-    bits.vbr(3, 5);
-    bits.put(1, 1);
-    bits.vbr(7, 8);
-    bits.put(3 << 1, 4);
-    bits.put(4 << 1, 4);
+    bits.define(3, &[Operand::Literal(7), Operand::Array, Operand::Char6]);
     bits.put(4, 3);
     bits.vbr(64, 6);
     (0..64).for_each(|six| bits.put(six, 6));
@@ -228,13 +223,7 @@ fn stores_grow_as_far_as_they_may() {
     let array = |count: u64| {
         let mut bits = Bits::default();
         let at = bits.enter(2, 8, 3);
-        bits.put(2, 3);
-        bits.vbr(3, 5);
-        bits.put(1, 1);
-        bits.vbr(7, 8);
-        bits.put(3 << 1, 4);
-        bits.put(1, 1);
-        bits.vbr(99, 8);
+        bits.define(3, &[Operand::Literal(7), Operand::Array, Operand::Literal(99)]);
         bits.put(4, 3);
         bits.vbr(count, 6);
         bits.leave(3, at);
@@ -255,10 +244,7 @@ fn stores_grow_as_far_as_they_may() {
     // Many events: three bits each.
     let mut bits = Bits::default();
     let at = bits.enter(2, 8, 3);
-    bits.put(2, 3);
-    bits.vbr(1, 5);
-    bits.put(1, 1);
-    bits.vbr(7, 8);
+    bits.define(3, &[Operand::Literal(7)]);
     (0..50_000).for_each(|_| bits.put(4, 3));
     bits.leave(3, at);
     let input = bits.log();

@@ -29,6 +29,17 @@ impl Chance {
     }
 }
 
+/// An operand of an abbreviation.
+#[derive(Clone, Copy)]
+pub enum Operand {
+    Literal(u64),
+    Fixed(u64),
+    Vbr(u64),
+    Array,
+    Char6,
+    Blob,
+}
+
 /// Bits, the first one lowest in the first byte.
 #[derive(Clone, Default)]
 pub struct Bits {
@@ -88,6 +99,28 @@ impl Bits {
     pub fn close(&mut self, at: usize) {
         let words = (self.bytes.len() - at - 4) / 4;
         self.bytes[at..at + 4].copy_from_slice(&(words as u32).to_le_bytes());
+    }
+
+    /// A definition of an abbreviation.
+    pub fn define(&mut self, width: u64, operands: &[Operand]) {
+        self.put(2, width);
+        self.vbr(operands.len() as u64, 5);
+        for operand in operands {
+            let (encoding, operand_width) = match *operand {
+                Operand::Literal(value) => {
+                    self.put(1, 1);
+                    self.vbr(value, 8);
+                    continue;
+                }
+                Operand::Fixed(width) => (1, Some(width)),
+                Operand::Vbr(width) => (2, Some(width)),
+                Operand::Array => (3, None),
+                Operand::Char6 => (4, None),
+                Operand::Blob => (5, None),
+            };
+            self.put(encoding << 1, 4);
+            operand_width.into_iter().for_each(|width| self.vbr(width, 5));
+        }
     }
 
     /// A record with no abbreviation.

@@ -2,7 +2,7 @@
 #![allow(dead_code, unused_imports)]
 mod bits;
 
-pub use bits::{Bits, Chance, MAGIC};
+pub use bits::{Bits, Chance, MAGIC, Operand};
 use gleanrime::{Event, Payload, TOP_LEVEL};
 
 /// 01's sample: a casing with a record of code 1 and the operand 2.
@@ -28,19 +28,12 @@ pub enum Scalar {
 }
 
 impl Scalar {
-    fn define(self, bits: &mut Bits) {
-        let (encoding, width) = match self {
-            Self::Literal(value) => {
-                bits.put(1, 1);
-                return bits.vbr(value, 8);
-            }
-            Self::Fixed(width) => (1, width),
-            Self::Vbr(width) => (2, width),
-            Self::Char6 => (4, 0),
-        };
-        bits.put(encoding << 1, 4);
-        if width != 0 {
-            bits.vbr(width, 5);
+    fn operand(self) -> Operand {
+        match self {
+            Self::Literal(value) => Operand::Literal(value),
+            Self::Fixed(width) => Operand::Fixed(width),
+            Self::Vbr(width) => Operand::Vbr(width),
+            Self::Char6 => Operand::Char6,
         }
     }
 
@@ -107,22 +100,13 @@ impl Shape {
     }
 
     fn define(&self, bits: &mut Bits, width: u64) {
-        let more = match self.tail {
-            Tail::None => 0,
-            Tail::Array(_) => 2,
-            Tail::Blob => 1,
-        };
-        bits.put(2, width);
-        bits.vbr(self.scalars.len() as u64 + more, 5);
-        self.scalars.iter().for_each(|scalar| scalar.define(bits));
+        let mut operands: Vec<Operand> = self.scalars.iter().map(|scalar| scalar.operand()).collect();
         match self.tail {
             Tail::None => {}
-            Tail::Array(element) => {
-                bits.put(3 << 1, 4);
-                element.define(bits);
-            }
-            Tail::Blob => bits.put(5 << 1, 4),
+            Tail::Array(element) => operands.extend([Operand::Array, element.operand()]),
+            Tail::Blob => operands.push(Operand::Blob),
         }
+        bits.define(width, &operands);
     }
 
     fn write(&self, bits: &mut Bits, chance: &mut Chance) -> (Vec<u64>, Load) {
