@@ -4,7 +4,7 @@ mod logs;
 mod readers;
 
 use logs::{KINDS, Kind, log};
-use readers::{Stores, iterated, told, visited};
+use readers::{Stores, iterated, told, visited, with_new_stores};
 use std::hint::black_box;
 use std::process::{Command, Stdio};
 use std::time::Instant;
@@ -36,18 +36,19 @@ fn compare(kind: &Kind, turns: usize, file: &str) {
     let input = log(kind, 8 * MIB);
     std::fs::write(file, &input).expect("the log can be written");
     let mut stores = Stores::of(&input);
-    let [mut walk, mut over, mut visitor, mut iterators, mut analyzer, mut clear] = [Best::NONE; 6];
+    let [mut walk, mut over, mut anew, mut visitor, mut iterators, mut analyzer, mut clear] = [Best::NONE; 7];
     for _ in 0..turns {
         clear.of(|| stores.clear());
         walk.of(|| stores.walk(&input).events().len());
         let ours = over.of(|| told(stores.walk(&input)));
+        assert_eq!(ours, anew.of(|| with_new_stores(&input)), "{}: ours, and with new stores", kind.name);
         assert_eq!(ours, visitor.of(|| visited(&input)), "{}: ours and the visitor", kind.name);
         assert_eq!(ours, iterators.of(|| iterated(&input)), "{}: ours and the iterators", kind.name);
         analyzer.of(|| analyze(file));
     }
-    let [walk, over, visitor, iterators, analyzer, clear] = [walk, over, visitor, iterators, analyzer, clear].map(|best| best.0);
+    let [walk, over, anew, visitor, iterators, analyzer, clear] = [walk, over, anew, visitor, iterators, analyzer, clear].map(|best| best.0);
     println!(
-        "| {} | {:.2} | {:.2} | {walk:.1} | {over:.1} | {visitor:.1} | {iterators:.1} | {analyzer:.0} | {clear:.1} | **{:.2}** | {:.2} |",
+        "| {} | {:.2} | {:.2} | {walk:.1} | {over:.1} | {anew:.1} | {visitor:.1} | {iterators:.1} | {analyzer:.0} | {clear:.1} | **{:.2}** | {:.2} |",
         kind.name,
         stores.events() as f64 / 1e6,
         stores.operands() as f64 / 1e6,
@@ -77,8 +78,10 @@ fn main() {
     let file = words.next().expect("the second word is a file for llvm-bcanalyzer");
 
     println!("Logs of 8 MiB, best of {turns} turns; millions, then milliseconds, then ratios:\n");
-    println!("| log | events | operands | walk | and events | visitor | iterators | bcanalyzer | clearing | walk : visitor | and events : visitor |");
-    println!("|---|---|---|---|---|---|---|---|---|---|---|");
+    println!(
+        "| log | events | operands | walk | and events | new stores | visitor | iterators | bcanalyzer | clearing | walk : visitor | and events : visitor |"
+    );
+    println!("|---|---|---|---|---|---|---|---|---|---|---|---|");
     KINDS.iter().for_each(|kind| compare(kind, turns, &file));
 
     println!("\nOur walk as the logs grow, nanoseconds for a byte:\n");

@@ -91,6 +91,11 @@ pub fn told(log: Log<'_>) -> Sum {
     sum
 }
 
+/// The whole job, with stores that are made for it and thrown away.
+pub fn with_new_stores(input: &[u8]) -> Sum {
+    told(gleanrime::Stores::new().read(input, &[]).expect("the log is accepted"))
+}
+
 impl Sum {
     fn payload(&mut self, payload: Option<Payload>) {
         match payload {

@@ -40,14 +40,13 @@ impl Stores {
     /// assert_eq!(Stores::with_most(23, 1).read(log, &[]).unwrap_err(), Refusal::NoEventRoom { place: 85 });
     /// ```
     pub fn with_most(events: usize, operands: usize) -> Self {
-        // Until there is something to go by: an event for each four bytes of a log, and an operand for each two.
-        Self { events: Store::new(events, 256 * EVENT_SIZE), operands: Store::new(operands, 512) }
+        Self { events: Store::new(events), operands: Store::new(operands) }
     }
 
     /// Reads a log, leaving the blocks in `skip` unread: [`walk`](crate::walk) with stores that are large enough.
     ///
     /// A walk clears what it doesn't fill, so a log is lent a part of the stores only, by its length and by what the log before it needed. Where that
-    /// turns out too small it is doubled, and the log is walked again.
+    /// turns out too small, the log is walked again with more: by how far the walk came, and twice as much at least.
     ///
     /// ```
     /// use gleanrime::{Event, Stores};
@@ -63,8 +62,8 @@ impl Stores {
         loop {
             let told = sys::walk(input, skip, self.events.lend(events), self.operands.lend(operands));
             match told.refusal() {
-                Some(Refusal::NoEventRoom { .. }) if events < self.events.most => events = self.events.doubled(events),
-                Some(Refusal::NoOperandRoom { .. }) if operands < self.operands.most => operands = self.operands.doubled(operands),
+                Some(Refusal::NoEventRoom { place }) if events < self.events.most => events = self.events.more(events, place, input),
+                Some(Refusal::NoOperandRoom { place }) if operands < self.operands.most => operands = self.operands.more(operands, place, input),
                 Some(refusal) => return Err(refusal),
                 None => {
                     self.events.learn(input, EVENT_SIZE * told.events);
@@ -82,12 +81,12 @@ impl Default for Stores {
     }
 }
 
-/// A store, what it may grow to, and how many numbers a log is thought to fill for each 1,024 bytes that it has.
+/// A store, what it may grow to, and how many numbers a log is thought to fill for each 1,024 bytes that it has, once there is a log to go by.
 #[derive(Clone)]
 struct Store {
     numbers: Vec<u64>,
     most: usize,
-    rate: usize,
+    rate: Option<usize>,
 }
 
 impl Store {
@@ -95,8 +94,11 @@ impl Store {
     const LEAST_RATE: usize = 128;
     const MOST_RATE: usize = 4096;
 
-    fn new(most: usize, rate: usize) -> Self {
-        Self { numbers: Vec::new(), most, rate }
+    /// What the first log is lent: enough for a small one, and for a large one enough to tell what it takes.
+    const FIRST: usize = 1 << 15;
+
+    fn new(most: usize) -> Self {
+        Self { numbers: Vec::new(), most, rate: None }
     }
 
     /// What a log is lent at first: a quarter more than it is thought to fill, but no larger store is made for that quarter alone. A log that is too
@@ -105,14 +107,17 @@ impl Store {
         if input.len() > MAX_INPUT {
             return 0;
         }
-        let filled = self.rate * (input.len() / 1024 + 1);
+        let Some(rate) = self.rate else { return self.most.min(Self::FIRST) };
+        let filled = rate * (input.len() / 1024 + 1);
         let roomy = filled + filled / 4;
         let kept = self.numbers.len();
         self.most.min(if (filled..roomy).contains(&kept) { kept } else { roomy })
     }
 
-    fn doubled(&self, count: usize) -> usize {
-        self.most.min(2 * count.max(1))
+    /// So many numbers were enough up to this bit: what the whole log takes if it goes on so, and a quarter more.
+    fn more(&self, count: usize, place: u64, input: &[u8]) -> usize {
+        let whole = count as u64 * input.len() as u64 / (place / 8 + 1);
+        (2 * count).max((whole + whole / 4) as usize).clamp(1, self.most)
     }
 
     /// So many numbers. What they were doesn't matter, so a larger store takes the place of the old one, which goes first.
@@ -125,7 +130,7 @@ impl Store {
     }
 
     fn learn(&mut self, input: &[u8], filled: usize) {
-        self.rate = filled.div_ceil(input.len() / 1024 + 1).clamp(Self::LEAST_RATE, Self::MOST_RATE);
+        self.rate = Some(filled.div_ceil(input.len() / 1024 + 1).clamp(Self::LEAST_RATE, Self::MOST_RATE));
     }
 }
 
