@@ -13,7 +13,7 @@ extern "C" {
 }
 
 const BYTES: usize = 1 << 20;
-const TURNS: usize = 200;
+const TURNS: usize = 600;
 
 /// A loop, with the width that it is to use where it does not know it.
 type Loop = fn(&[u8], u64) -> u64;
