@@ -89,23 +89,21 @@ pub enum NextRange {
     Refused(u64),
 }
 
-// The letter that a six-bit number stands for. What lies behind the two alphabets is settled first: each match then picks one of a few numbers,
-// which takes no branch, and the letters of a text can't be foreseen by a processor.
+// The letter that a six-bit number stands for. What stands behind the two alphabets is settled first, so that each match becomes a choice with no
+// branch: a processor can't foresee the letters of a text.
 fn letter(v: u64) -> u64
-    requires { ⌜ v < 64 ⌝ }
     ensures { λ r. ⌜ r ≡ ascii v ⌝ }
 {
     let behind = match v {
-        0..=61 => 12,
-        62 => 0,
-        _ => 48,
+        52..=61 => v - 4,
+        62 => 46,
+        _ => 95,
     };
-    let shift = match v {
-        0..=25 => 113,
-        26..=51 => 55,
+    match v {
+        0..=25 => v + 97,
+        26..=51 => v + 39,
         _ => behind,
-    };
-    v + shift - 16
+    }
 }
 
 // A letter of six bits.

@@ -1,20 +1,9 @@
 -- `bitcode::read_char6` meets its contract: the letter is the one of the six bits read. Assumes nothing.
-use mathlib.Core.List.{List}
-use Prim.Native.Nat.{ℕ, _^_, _<_}
-use native.Mathlib.Omega.{arith}
 use borrow.Author.Needs.{needs}
-use Rattle.bits.specs.Bits.{read}
-use Rattle.bits.specs.Told.{At}
-use Rattle.bits.specs.declared.Cursor.{Cursor}
 use Rattle.bits.proofs.Steps.{on, off, ends}
-use Rattle.bits.proofs.Laws.{read-gives, field-lt}
 use Rattle.bitcode.specs.Scalar.{value}
 use Rattle.bitcode.proofs.read_char6.Statement.{statement}
 use Rattle.bitcode.proofs.read_char6.Tie as tie
-
--- a number of n bits
-below : (n : ℕ) {s : List ℕ} {e p v : ℕ} {d : Cursor} → At (read n) s e p v d → v < 2 ^ n
-below n {s} {e} {p} {v} {d} x = rw (read-gives s e p n v (d .at) (x .gives) .value) (field-lt s p n)
 
 read-requires : tie.Need-read-requires
 read-requires c κs = search needs
@@ -26,7 +15,7 @@ enum-known-v : tie.Need-enum-known-v
 enum-known-v c = search needs
 
 letter-requires : tie.Need-letter-requires
-letter-requires c κs = let z = below _ (rw (c .before .v .given .1) at (c .before .before .before .read .ensures)) in omega (arith, z)
+letter-requires c κs = search needs
 
 returns : tie.Need-returns
 unfolding value
