@@ -1,5 +1,7 @@
 // Bits and VBR numbers (src/bits.rs of the Rust): a place in a stream and an end, by value, with the slice lent beside them.
 // Each call is total: for any place, any end and any slice it gives its answer or a numbered refusal, and it asks nothing of its caller.
+#![tactic(auto)]
+
 ghost use Rattle.std.specs.Prelude.{◌≡◌, ◌+◌, ◌*◌, ◌/◌, ◌%◌, ◌^◌, ◌≤◌, ◌<◌, min, length, get_or};
 ghost use Rattle.bits.specs.Word.{word64};
 ghost use Rattle.bits.specs.Bits.{field, limit, read, peek, align, vbr, skip, next_bytes, bits_left, ends_at, signed_of};
