@@ -1,5 +1,7 @@
 // The header and the operand readers (src/bitcode.rs of the Rust): the signature with its wrapper, scalar operands, typed operands over a lent
 // store, and a blob's part of the input. Each call is total and asks nothing of its caller.
+#![tactic(auto)]
+
 ghost use Rattle.std.specs.Prelude.{◌≡◌, ℕ, ◌+◌, ◌*◌, ◌^◌, ◌≤◌, ◌<◌, min, length, take, drop};
 ghost use Rattle.bits.specs.Told.{Gives, of_read};
 ghost use Rattle.bitcode.specs.Scalar.{ascii, value};
