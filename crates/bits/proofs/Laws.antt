@@ -72,8 +72,8 @@ field_in_byte s b j (suc n) h =
     let e : 8 * b + j + 1 ≡ 8 * b + (j + 1) = omega arith in
     let ih = field_in_byte s b (j + 1) n (omega arith) in
     let a = bit_of s b j (omega arith) in
-    let q : x / 2 ^ j / 2 ^ 1 ≡ x / 2 ^ (j + 1) = P.shr_shr x j 1 in
-    let r : x / 2 ^ j % 2 ^ (n + 1) ≡ x / 2 ^ j / 2 ^ 1 % 2 ^ n * 2 ^ 1 + x / 2 ^ j % 2 ^ 1 = P.mod_pow_add (x / 2 ^ j) n 1 in
+    let q : x / 2 ^ j / 2 ^ 1 ≡ x / 2 ^ (j + 1) = P.shr-shr x j 1 in
+    let r : x / 2 ^ j % 2 ^ (n + 1) ≡ x / 2 ^ j / 2 ^ 1 % 2 ^ n * 2 ^ 1 + x / 2 ^ j % 2 ^ 1 = P.mod-pow-add (x / 2 ^ j) n 1 in
     rw (← add-one n, r, q, e, ih, a) (omega arith)
 
 -- what is known of a slice of bytes
@@ -111,7 +111,7 @@ pub two_shifts : (w n : ℕ) → n ≤ 64 → w * 2 ^ (64 - n) % 2 ^ 64 / 2 ^ (6
 two_shifts w n h =
     let e : n + (64 - n) ≡ 64 = omega arith in
     let f : w * 2 ^ (64 - n) % 2 ^ (n + (64 - n)) / 2 ^ (64 - n) ≡ w * 2 ^ (64 - n) / 2 ^ (64 - n) % 2 ^ n = P.field (w * 2 ^ (64 - n)) n (64 - n) in
-    (rw e at f) ∙ rw (P.shl_shr w (64 - n))
+    (rw e at f) ∙ rw (P.shl-shr w (64 - n))
 
 -- a field of n bits at p, out of the word at p's byte, where they all lie in it
 pub from_word : (s : List ℕ) (p n : ℕ) {w r : ℕ} → Bytes s → w ≡ word64 s (p / 8) → r ≡ w / 2 ^ (p % 8) % 2 ^ n → p % 8 + n ≤ 64 → r ≡ field s p n

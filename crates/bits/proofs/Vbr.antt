@@ -18,22 +18,22 @@ use Rattle.bits.proofs.Steps.{fail}
 
 -- a shift within a word keeps the digits that stay in it
 shl_mod : (x j k : ℕ) → x * 2 ^ k % 2 ^ (j + k) ≡ x % 2 ^ j * 2 ^ k
-shl_mod x j k = P.mod_pow_add (x * 2 ^ k) j k ∙ rw (P.shl_shr x k, mul-mod_left x (2 ^ k), add-zero)
+shl_mod x j k = P.mod-pow-add (x * 2 ^ k) j k ∙ rw (P.shl-shr x k, mul-mod_left x (2 ^ k), add-zero)
 
 -- a chunk's value bits stand above the sum so far, so that adding them fits a word
 pub sum_fits : (x sum shift : ℕ) → sum < 2 ^ shift → shift < 64 → sum + x * 2 ^ shift % 2 ^ 64 < 2 ^ 64
 sum_fits x sum shift h l =
     let e : 64 - shift + shift ≡ 64 = omega arith in
     let m : x * 2 ^ shift % 2 ^ 64 ≡ x % 2 ^ (64 - shift) * 2 ^ shift = rw e at (shl_mod x (64 - shift) shift) in
-    let p : 2 ^ (64 - shift) * 2 ^ shift ≡ 2 ^ 64 = sym (P.pow_add 2 (64 - shift) shift) ∙ ap (λ (k : ℕ). 2 ^ k) e in
+    let p : 2 ^ (64 - shift) * 2 ^ shift ≡ 2 ^ 64 = sym (P.pow-add 2 (64 - shift) shift) ∙ ap (λ (k : ℕ). 2 ^ k) e in
     let d : x % 2 ^ (64 - shift) * 2 ^ shift + sum < 2 ^ (64 - shift) * 2 ^ shift = digits_lt (mod-lt x (P.pow_pos (64 - shift))) h in
     omega arith
 
 -- and it stays below the next chunk's place
 pub sum_low : (x sum shift k : ℕ) → sum < 2 ^ shift → x < 2 ^ k → sum + x * 2 ^ shift % 2 ^ 64 < 2 ^ (shift + k)
 sum_low x sum shift k h l =
-    let p : 2 ^ (shift + k) ≡ 2 ^ shift * 2 ^ k = P.pow_add 2 shift k in
-    let q : 2 ^ k * 2 ^ shift ≡ 2 ^ (k + shift) = sym (P.pow_add 2 k shift) in
+    let p : 2 ^ (shift + k) ≡ 2 ^ shift * 2 ^ k = P.pow-add 2 shift k in
+    let q : 2 ^ k * 2 ^ shift ≡ 2 ^ (k + shift) = sym (P.pow-add 2 k shift) in
     let r : k + shift ≡ shift + k = omega arith in
     let d : x * 2 ^ shift + sum < 2 ^ k * 2 ^ shift = digits_lt l h in
     let d2 : x * 2 ^ shift + sum < 2 ^ (shift + k) = rw (q, r) at d in
