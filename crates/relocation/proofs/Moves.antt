@@ -221,16 +221,18 @@ module _ {s s' : List ℕ} {lo hi up down : ℕ} {win : Window s s' lo hi up dow
       (subst (λ n. Made up down og oo (limit s e) c.top st n x q₁) (sym z.0) z₁) _ _
       (λ y. items_move r ps c k t (after_like up down y l) (omega arith))))
 
-  pub nested_moves : (d : ℕ) {skips skips' : Pass} → Passes win skips skips' → Subs win og oo (nested d skips) (nested d skips')
+  nested_at : (d : ℕ) {skips skips' : Pass} → Passes win skips skips' → (e e' p : ℕ) → lo ≤ p → (from : ℕ) (h : Head) (st st' : State)
+      → Like og oo st st' → Headed (limit s e) h p → Fitting up down (limit s' e') h
+      → Runs win e e' p (Unit {0}) (λ xs q. Inner st xs × (q ≡ p + 8 * size_of h) × Fines up down og oo xs) (Inner st')
+      (move_pieces up down og oo) (nested d skips from h st) (nested d skips' (mv up down from) (move_head up down h) st')
   unfolding nested event_room Headed Fitting stop ◌>>=◌ move_head Inner Holds size_of entered tail
-  nested_moves zero ps = record { subs = λ e e' p h from x. elim x [ head b w at n ↦ λ st st' l z f. stops _ ] }
-  nested_moves (suc d) ps = record {
-    subs = λ e e' p h from x. elim x [
-      | head b w at n ↦ λ st st' l z f.
-          on _ (rooms e e' st.room st'.room _ _) (λ _ q g z₁.
-          recast (withins {win = win} {K = λ xs. Holds false (entered b st) xs × Fines up down og oo xs} {p = q} e' (omega arith) n _ _
-          (omega arith) (omega arith) (omega arith)
-          (λ t₁. turned _ _ _ _ (λ k. items_move (nested_moves d ps) ps _ k t₁ (entered_like b l) (omega arith))))
-          (λ _ _ _ v. (omega arith, omega arith, v.0.1)) (λ _ v. omega arith) (λ _ v _. omega arith))
-    ];
-  }
+  nested_at zero ps e e' p h from (head b w at n) st st' l z f = stops _
+  nested_at (suc d) ps e e' p h from (head b w at n) st st' l z f =
+      on _ (rooms e e' st.room st'.room _ _) (λ _ q g z₁.
+      recast (withins {win = win} {K = λ xs. Holds false (entered b st) xs × Fines up down og oo xs} {p = q} e' (omega arith) n _ _
+      (omega arith) (omega arith) (omega arith)
+      (λ t₁. turned _ _ _ _ (λ k. items_move (record { subs = nested_at d ps }) ps _ k t₁ (entered_like b l) (omega arith))))
+      (λ _ _ _ v. (omega arith, omega arith, v.0.1)) (λ _ v. omega arith) (λ _ v _. omega arith))
+
+  pub nested_moves : (d : ℕ) {skips skips' : Pass} → Passes win skips skips' → Subs win og oo (nested d skips) (nested d skips')
+  nested_moves d ps = record { subs = nested_at d ps }
