@@ -1,6 +1,8 @@
 // Abbreviations and BLOCKINFO (src/bitstream.rs and src/read.rs of the Rust). Definitions are read straight into tables, which are lent beside the
 // counts of what they hold. A row of the tables holds one abbreviation: its scalar operands, a slot each, and an array's element behind them.
 // Each call is total and asks nothing of its caller: where the lent tables have no such row, there is no room (17).
+#![tactic(auto)]
+
 ghost use Rattle.std.specs.Prelude.{◌≡◌, ◌++◌, ◌+◌, ◌*◌, ◌<◌, ◌≤◌, min, length, drop};
 ghost use Rattle.terms.specs.Limits.{max_operands, max_shared};
 ghost use Rattle.bits.specs.Told.{Gives, of_read};
@@ -36,7 +38,7 @@ pub const ARRAY_SHAPE: u64 = 33;
 pub const BLOB_SHAPE: u64 = 66;
 
 // A block's number.
-#[derive(Drop)]
+#[derive(Clone, Copy)]
 pub struct BlockNumber(pub u64);
 
 // The number of an abbreviation in a block, which counts from 4.
@@ -79,7 +81,7 @@ pub enum Defined {
 }
 
 // The block that SETBID chose in this BLOCKINFO.
-#[derive(Drop)]
+#[derive(Clone, Copy)]
 enum Chosen {
     Nothing,
     Block(BlockNumber),
