@@ -16,7 +16,7 @@ use terms::{END_OF_RECORD, INVALID_SIGNATURE, VALUE_OVERFLOW};
 pub const LLVM_BITCODE_WRAPPER_MAGIC: u64 = 0x0B17_C0DE;
 
 // How a scalar operand of an abbreviation is read.
-#[derive(Drop)]
+#[derive(Clone, Copy)]
 pub enum ScalarOperand {
     Literal(u64),
     Fixed(u64),
@@ -25,7 +25,7 @@ pub enum ScalarOperand {
 }
 
 // The header numbers: without a wrapper `offset` is 4, `size` the length of what follows, and the others but `magic` are 0.
-#[derive(Drop)]
+#[derive(Clone, Copy)]
 pub struct Signature {
     pub magic: u64,
     pub magic2: u64,

@@ -10,7 +10,7 @@ ghost use Rattle.bits.specs.Told.{Gives, of_read, of_peek, of_move, Parts};
 use terms::{ALIGNMENT, BUFFER_OVERFLOW, MAX_INPUT, VBR_OVERFLOW};
 
 // A place in a stream, in bits, and the end of what may be read, in bytes.
-#[derive(Drop)]
+#[derive(Clone, Copy)]
 pub struct Cursor {
     pub at: u64,
     pub end: u64,

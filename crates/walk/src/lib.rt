@@ -1,5 +1,7 @@
 // The walk (src/read.rs and src/visitor.rs of the Rust): bytes in; events and operands into lent stores, or a numbered refusal with its bit place.
 // A block's walk calls itself with one level less to go. Tables and stores are lent all the way down; what goes along by value is small.
+#![tactic(auto)]
+
 ghost use Rattle.std.specs.Prelude.{◌≡◌, List, [], ◌∷◌, ◌++◌, true, false, ℕ, ◌+◌, ◌-◌, ◌*◌, ◌/◌, ◌%◌, ◌≤◌, ◌<◌, min, length, take, replicate};
 ghost use Rattle.terms.specs.Limits.{event_size, max_shared, max_local};
 ghost use Rattle.terms.specs.Refusals.{refusal};
@@ -46,7 +48,7 @@ pub const BLOB: u64 = 3;
 
 // What the walk returns: 0 or the refusal's number, its place in bits of the stream and its details; the header numbers; and how many events and
 // operands the stores hold.
-#[derive(Drop)]
+#[derive(Clone, Copy)]
 pub struct Walked {
     pub status: u64,
     pub place: u64,
@@ -67,7 +69,7 @@ struct Refused {
 }
 
 // How far the walk has come: the next bit, how many numbers each store holds, and how many shared and local abbreviations the tables hold.
-#[derive(Drop)]
+#[derive(Clone, Copy)]
 struct Marks {
     at: u64,
     events: usize,
@@ -78,7 +80,7 @@ struct Marks {
 
 // The block that is walked: its number and width, its end in bytes, the levels to go below it, whether it is the top level, and how many local
 // abbreviations the blocks around it have.
-#[derive(Drop)]
+#[derive(Clone, Copy)]
 struct Frame {
     number: u64,
     width: u64,
