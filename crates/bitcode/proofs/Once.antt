@@ -5,7 +5,6 @@ use Prim.Native.Nat.{ℕ, ◌+◌, min}
 use Rattle.bits.specs.Told.{Gives, of_read}
 use Rattle.bits.specs.declared.Cursor.{Cursor}
 use Rattle.bits.specs.declared.Read.{Read}
-use Rattle.bits.specs.declared.Read.TheVariants as Read
 use Rattle.bits.proofs.Once.{from_told, told_once, read_back, same_once}
 use Rattle.bitcode.specs.Scalar.{value}
 use Rattle.bitcode.specs.Header.{signature, parsed, stream, bytes_of, blob_of}
