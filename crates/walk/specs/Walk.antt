@@ -1,6 +1,6 @@
 -- The walk: the whole call (01, "Walk", "Refusal numbers"). Bytes, a skip list and the sizes of two stores in; status, place, details, header
 -- numbers, counts and both stores out. Assumes nothing.
-use Rattle.std.specs.Prelude.{Bool, true, false, List, [], ◌∷◌, ◌++◌, ℕ, ◌+◌, ◌-◌, ◌/◌, length, replicate, ltb, eqb}
+use Rattle.std.specs.Prelude.{Bool, true, false, List, [], ◌∷◌, ◌++◌, ℕ, ◌-◌, ◌/◌, length, replicate, ltb, eqb}
 use Rattle.terms.specs.Limits.{max_input, max_open, event_size}
 use Rattle.terms.specs.Refusals.{Refusal, refusal, at_bit, invalid_signature, input_too_long}
 use Rattle.bits.specs.Reader.{Reader, Answer, got, refused, if◌then◌else◌, turns}
