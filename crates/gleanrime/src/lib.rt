@@ -1,5 +1,7 @@
 // The library that people link: the walk, the header, a blob's place and typed operands, for a program in C or Rust to call. A slice is handed over
 // as a pointer and a length, and a lent number as a pointer. Each call is total and asks nothing of its caller.
+#![tactic(auto)]
+
 ghost use Rattle.std.specs.Prelude.{◌≡◌, ◌^◌, ltb, pos, length};
 ghost use Rattle.bitcode.specs.Header.{signature};
 ghost use Rattle.bitcode.specs.Operands.{next_below, next_signed, next_range};

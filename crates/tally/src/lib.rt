@@ -1,5 +1,7 @@
 // Loops over the bit reader, for a program in another language to time: the sum of all numbers of a slice, one behind the other.
 // The width is known to the compiler in the functions whose names end in 6.
+#![tactic(auto)]
+
 ghost use Rattle.std.specs.Prelude.{◌≡◌};
 ghost use Rattle.bits.specs.Bits.{read, vbr};
 ghost use Rattle.tally.specs.Total.{total};
