@@ -1,5 +1,5 @@
-// The library that people link: the walk, the header, a blob's place and typed operands, for a program in C or Rust to call. A slice is handed over
-// as a pointer and a length, and a lent number as a pointer. Each call is total and asks nothing of its caller.
+// The calls of the library that people link: the walk, the header, a blob's place and typed operands. `gleanrime_c` exports them to a program in C or
+// Rust. Each call is total and asks nothing of its caller.
 #![tactic(auto)]
 
 ghost use Rattle.std.specs.Prelude.{◌≡◌, ◌^◌, ltb, pos, length};
@@ -47,8 +47,7 @@ fn put_front(from: &[u64], to: &mut [u64])
 
 // The walk of an input, with the numbers of the blocks to skip and three stores lent. The third is for what the walk returned, as many numbers as fit
 // of these: status, place, first, second, magic, magic2, version, offset, size, cpu, events, operands. Hands the status back too.
-#[unsafe(no_mangle)]
-pub extern "C" fn gleanrime_walk(
+pub fn gleanrime_walk(
     input: &[u8],
     skip: &[u64],
     events: &mut [u64],
@@ -74,8 +73,7 @@ fn six_of(h: Signature) -> [u64; HEADER]
 
 // The header of an input of any length. The store is for as many numbers as fit of these: magic, magic2, version, offset, size, cpu; zeros where the
 // header is refused. Hands 0 back, or the refusal's number.
-#[unsafe(no_mangle)]
-pub extern "C" fn gleanrime_header(input: &[u8], told: &mut [u64]) -> u64
+pub fn gleanrime_header(input: &[u8], told: &mut [u64]) -> u64
     ensures status { result ≡ header_status (signature input.now) }
     ensures told { told.new ≡ over (header_numbers (signature input.now)) told.old }
 {
@@ -108,8 +106,7 @@ fn stream_start(input: &[u8]) -> u64
 
 // A blob, by the place and the length that its record's event tells: hands back how many bytes it has, and `from` is the byte of the input at which
 // it begins. Both are 0 where the place and the length are not inside the stream.
-#[unsafe(no_mangle)]
-pub extern "C" fn gleanrime_blob(input: &[u8], place: u64, length: u64, from: &mut u64) -> u64
+pub fn gleanrime_blob(input: &[u8], place: u64, length: u64, from: &mut u64) -> u64
     ensures size { result ≡ blob_size input.now place length }
     ensures from { from.new ≡ blob_from input.now place length }
 {
@@ -137,8 +134,7 @@ fn fits(v: u64, bits: u64) -> bool
 
 // The operand at the place `first` of a store, where `count` are left in its record: it must be below 2^bits, so that 8, 16, 32 and 64 stand for u8
 // to u64, and 1 for a bool. Hands 0 back, or the refusal's number, and then `value` is 0.
-#[unsafe(no_mangle)]
-pub extern "C" fn gleanrime_unsigned(
+pub fn gleanrime_unsigned(
     operands: &[u64],
     first: u64,
     count: u64,
@@ -162,8 +158,7 @@ pub extern "C" fn gleanrime_unsigned(
 }
 
 // The same for a signed number: the operand's lowest bit is its sign.
-#[unsafe(no_mangle)]
-pub extern "C" fn gleanrime_signed(operands: &[u64], first: u64, count: u64, value: &mut i64) -> u64
+pub fn gleanrime_signed(operands: &[u64], first: u64, count: u64, value: &mut i64) -> u64
     ensures status { result ≡ status_of (operand next_signed operands.now first count) }
     ensures value { value.new ≡ value_or (pos 0) (operand next_signed operands.now first count) }
 {
@@ -178,8 +173,7 @@ pub extern "C" fn gleanrime_signed(operands: &[u64], first: u64, count: u64, val
 }
 
 // The same for two operands, a start and a length: told as a start and an end, which is not part of it.
-#[unsafe(no_mangle)]
-pub extern "C" fn gleanrime_range(
+pub fn gleanrime_range(
     operands: &[u64],
     first: u64,
     count: u64,

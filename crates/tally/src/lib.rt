@@ -45,29 +45,25 @@ fn numbers(s: &[u8], w: u64) -> u64
     all
 }
 
-#[unsafe(no_mangle)]
-pub extern "C" fn tally_fields(s: &[u8], n: u64) -> u64
+pub fn tally_fields(s: &[u8], n: u64) -> u64
     ensures { result ≡ total (read n) s.now }
 {
     fields(s, n)
 }
 
-#[unsafe(no_mangle)]
-pub extern "C" fn tally_fields6(s: &[u8]) -> u64
+pub fn tally_fields6(s: &[u8]) -> u64
     ensures { result ≡ total (read 6) s.now }
 {
     fields(s, 6)
 }
 
-#[unsafe(no_mangle)]
-pub extern "C" fn tally_vbr(s: &[u8], w: u64) -> u64
+pub fn tally_vbr(s: &[u8], w: u64) -> u64
     ensures { result ≡ total (vbr w) s.now }
 {
     numbers(s, w)
 }
 
-#[unsafe(no_mangle)]
-pub extern "C" fn tally_vbr6(s: &[u8]) -> u64
+pub fn tally_vbr6(s: &[u8]) -> u64
     ensures { result ≡ total (vbr 6) s.now }
 {
     numbers(s, 6)

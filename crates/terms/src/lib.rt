@@ -1,4 +1,5 @@
 // The numbers that document 01 sets, for the code: limits and refusals. specs/ has the same for the definition.
+#![tactic(auto)]
 
 // The most bytes that an input has.
 pub const MAX_INPUT: u64 = 16_777_216;
