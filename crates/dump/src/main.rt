@@ -1,12 +1,15 @@
 // Reads a log from standard input, walks it, and prints the outcome: status, header and events, as 01's sample has them. Of the input 65,536 bytes are
 // taken; a longer one is refused with 15.
+#![tactic(auto)]
+
 ghost use Rattle.std.specs.Prelude.{◌≡◌};
 ghost use Rattle.text.specs.Text.{Puts};
 ghost use Rattle.dump.specs.Dumped.{too_long, dumped};
 
 use bitcode::Signature;
-use libc::{STDIN_FILENO, STDOUT_FILENO};
+use std::io::{Result, Write};
 use terms::INPUT_TOO_LONG;
+use text::feed::{read_full, zeros};
 use text::front;
 use text::lines::{put_dump, put_status};
 use walk::{Walked, walk};
@@ -58,10 +61,10 @@ fn put_input(input: &[u8], out: &mut [u8]) -> usize
     put_dump(out, 0, w, &events, &operands)
 }
 
-fn main() {
-    let mut input = [0u8; INPUT];
-    let mut out = [0u8; ROOM];
-    let n = io::read_full(STDIN_FILENO, &mut input);
+fn main(rt: HostRuntime) -> Result<()> {
+    let mut input = zeros::<INPUT>();
+    let mut out = zeros::<ROOM>();
+    let n = read_full(&mut rt.stdin(), &mut input)?;
     let fill = put_input(&input[..n], &mut out);
-    io::write_all(STDOUT_FILENO, front(&out, fill));
+    rt.stdout().write_all(front(&out, fill))
 }

@@ -11,6 +11,8 @@
 //   of Operands { at: AT, end: END } over the numbers that BYTES make, eight a number, the lowest first:
 //                                               1 u8  2 u16  4 u32  8 u64  z bool  g i64  n range
 //   of N alone:                                 i signed(N)
+#![tactic(auto)]
+
 mod answer;
 mod cursor;
 mod scan;
@@ -20,7 +22,8 @@ use answer::{Answer, put_answer, put_header};
 use bitcode::Signature;
 use cursor::{ask_cursor, ask_scalar, cursor_of};
 use scan::{Question, Scan, question_on};
-use text::feed::{Line, flush, made_room};
+use std::io::{Read, Result, Write};
+use text::feed::{Line, flush, made_room, zeros};
 use text::scan::is_asking;
 use text::{front, put_byte, put_bytes, put_hex};
 use typed::ask_typed;
@@ -86,21 +89,27 @@ fn put_line(out: &mut [u8], fill: usize, line: &[u8]) -> usize {
 }
 
 // Answers every line of the input.
-fn answer_all(text: &mut [u8], out: &mut [u8]) {
+fn answer_all(
+    input: &mut impl Read,
+    output: &mut impl Write,
+    text: &mut [u8],
+    out: &mut [u8],
+) -> Result<()> {
     let mut fill = 0;
-    let mut line = Line::first(text);
+    let mut line = Line::first(input, text)?;
     while 0 < line.left {
         let a = line.start;
         let e = line.end;
-        fill = made_room(out, fill, MOST);
+        fill = made_room(output, out, fill, MOST)?;
         fill = put_line(out, fill, &text[a..e]);
-        line = line.behind(text);
+        line = line.behind(input, text)?;
     }
-    flush(out, fill);
+    flush(output, out, fill)?;
+    Ok(())
 }
 
-fn main() {
+fn main(rt: HostRuntime) -> Result<()> {
     let mut text = io::large_buffer();
-    let mut out = [0u8; ROOM];
-    answer_all(&mut text, &mut out);
+    let mut out = zeros::<ROOM>();
+    answer_all(&mut rt.stdin(), &mut rt.stdout(), &mut text, &mut out)
 }

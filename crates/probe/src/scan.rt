@@ -4,7 +4,7 @@ ghost use Rattle.std.specs.Prelude.{◌≤◌, ◌<◌, length};
 use text::scan::{Count, Number, decimal, find, find_behind, hex};
 
 // What is asked, and how many bytes come with it; these go into a lent buffer.
-#[derive(Drop)]
+#[derive(Clone, Copy)]
 pub struct Question {
     pub op: u8,
     pub n: u64,

@@ -17,13 +17,16 @@
 // put in the same notation. Where the two are the same nothing is printed; where they differ, the line as it stands and behind it `  ours ` and our answer.
 // An empty line and one that begins with `#` are handed back as they stand, and one that is no question with `  ?` behind it. The last line is
 // `N answers, M the same`. A line has 65,536 bytes at most.
+#![tactic(auto)]
+
 mod answer;
 mod hold;
 mod scan;
 
 use hold::held;
 use scan::{Scan, answer_on, question_on};
-use text::feed::{Line, flush, made_room};
+use std::io::{Read, Result, Write};
+use text::feed::{Line, flush, made_room, zeros};
 use text::scan::{MOST_SKIPS, is_asking};
 use text::store::numbers_of;
 use text::{front, put_byte, put_bytes, put_decimal, put_named};
@@ -163,34 +166,45 @@ fn put_tally(out: &mut [u8], t: Tally) -> usize {
 
 // Takes every line of the list; room is made behind each, so that the last line of the output has it too.
 fn take_all(
+    input: &mut impl Read,
+    output: &mut impl Write,
     text: &mut [u8],
     out: &mut [u8],
     ours: &mut [u8],
     events: &mut [u64],
     operands: &mut [u64],
-) {
+) -> Result<()> {
     let mut t = Tally {
         fill: 0,
         answers: 0,
         same: 0,
     };
-    let mut line = Line::first(text);
+    let mut line = Line::first(input, text)?;
     while 0 < line.left {
         let a = line.start;
         let e = line.end;
         t = take_line(out, t, &text[a..e], ours, events, operands);
-        t.fill = made_room(out, t.fill, MOST);
-        line = line.behind(text);
+        t.fill = made_room(output, out, t.fill, MOST)?;
+        line = line.behind(input, text)?;
     }
     let fill = put_tally(out, t);
-    flush(out, fill);
+    flush(output, out, fill)?;
+    Ok(())
 }
 
-fn main() {
+fn main(rt: HostRuntime) -> Result<()> {
     let mut text = io::large_buffer();
-    let mut out = [0u8; ROOM];
-    let mut ours = [0u8; OURS];
+    let mut out = zeros::<ROOM>();
+    let mut ours = zeros::<OURS>();
     let mut events = [0u64; STORE];
     let mut operands = [0u64; STORE];
-    take_all(&mut text, &mut out, &mut ours, &mut events, &mut operands);
+    take_all(
+        &mut rt.stdin(),
+        &mut rt.stdout(),
+        &mut text,
+        &mut out,
+        &mut ours,
+        &mut events,
+        &mut operands,
+    )
 }

@@ -1,12 +1,19 @@
 // Standard input line by line, and standard output in pieces, each through a lent buffer.
-ghost use Rattle.std.specs.Prelude.{◌≡◌, ◌+◌, ◌-◌, ◌≤◌, length};
+ghost use Rattle.std.specs.Prelude.{◌≡◌, ◌+◌, ◌-◌, ◌≤◌, length, IfOk};
 
 use crate::front;
 use crate::scan::find;
-use libc::{STDIN_FILENO, STDOUT_FILENO};
+use std::io::{Error, ErrorKind, Read, Result, Write};
 
 // The most lines that are taken.
 const MOST_LINES: u64 = 4_294_967_296;
+
+// A buffer of zeros, to lend.
+pub fn zeros<const N: usize>() -> [u8; N]
+    ensures { length result ≡ N }
+{
+    [0; N]
+}
 
 // A line of the input: where it starts and ends in the buffer, its line end left out; where the next one starts and where what is read ends; and how many
 // lines there may be from this one on, 0 where there is none.
@@ -47,82 +54,114 @@ fn to_front(text: &mut [u8], from: usize, end: usize) -> usize
     n
 }
 
-// Reads behind the first n bytes; tells where what is read ends.
-fn read_behind(text: &mut [u8], n: usize) -> usize
-    requires { n ≤ length text.old }
-    ensures { (n ≤ result) × (result ≤ length text.new) }
+// Reads until the buffer is full or the input ends; tells how much of the buffer is filled. A read that a signal interrupts is tried again.
+pub fn read_full(input: &mut impl Read, text: &mut [u8]) -> Result<usize>
+    ensures end { IfOk result (λ n. n ≤ length text.new) }
+    ensures size { length text.new ≡ length text.old }
 {
-    n + io::read_full(STDIN_FILENO, &mut text[n..])
+    let mut n = 0;
+    for _ in 0..u64::MAX {
+        if n == text.len() {
+            return Ok(n);
+        }
+        match input.read(&mut text[n..]) {
+            Ok(0) => return Ok(n),
+            Ok(more) => n += more,
+            Err(e) => {
+                if e.kind() != ErrorKind::Interrupted {
+                    return Err(e);
+                }
+            }
+        }
+    }
+    Err(Error::from(ErrorKind::Interrupted))
+}
+
+// Reads behind the first n bytes; tells where what is read ends.
+fn read_behind(input: &mut impl Read, text: &mut [u8], n: usize) -> Result<usize>
+    requires { n ≤ length text.old }
+    ensures { IfOk result (λ end. (n ≤ end) × (end ≤ length text.new)) }
+{
+    let more = read_full(input, &mut text[n..])?;
+    Ok(n + more)
 }
 
 // The next line where what is left of the text, from one place to another, has no line end: more is read behind it. What has no line end still is a line,
 // if it is not empty: it fills the buffer, or the input ends.
-fn read_line(text: &mut [u8], from: usize, end: usize, left: u64) -> Line
+fn read_line(
+    input: &mut impl Read,
+    text: &mut [u8],
+    from: usize,
+    end: usize,
+    left: u64,
+) -> Result<Line>
     requires { end ≤ length text.old }
-    ensures { (result.start ≤ result.end) × (result.end ≤ length text.new) × (result.left ≤ left) }
+    ensures { IfOk result (λ r. (r.start ≤ r.end) × (r.end ≤ length text.new) × (r.left ≤ left)) }
 {
     let kept = to_front(text, from, end);
-    let filled = read_behind(text, kept);
+    let filled = read_behind(input, text, kept)?;
     if filled == 0 {
-        return no_line();
+        return Ok(no_line());
     }
     let e = find(&text[0..filled], kept, b'\n');
-    Line {
+    Ok(Line {
         start: 0,
         end: e,
         next: e + 1,
         filled,
         left,
-    }
+    })
 }
 
 impl Line {
     // The first line.
-    pub fn first(text: &mut [u8]) -> Self
-        ensures { (result.start ≤ result.end) × (result.end ≤ length text.new) }
+    pub fn first(input: &mut impl Read, text: &mut [u8]) -> Result<Self>
+        ensures line { IfOk result (λ r. (r.start ≤ r.end) × (r.end ≤ length text.new)) }
+        ensures size { length text.new ≡ length text.old }
     {
-        read_line(text, 0, 0, MOST_LINES)
+        read_line(input, text, 0, 0, MOST_LINES)
     }
 
     // The line behind this one.
-    pub fn behind(self, text: &mut [u8]) -> Self
-        ensures { (result.start ≤ result.end) × (result.end ≤ length text.new) × (result.left ≤ self.left - 1) }
+    pub fn behind(self, input: &mut impl Read, text: &mut [u8]) -> Result<Self>
+        ensures line { IfOk result (λ r. (r.start ≤ r.end) × (r.end ≤ length text.new) × (r.left ≤ self.left - 1)) }
+        ensures size { length text.new ≡ length text.old }
     {
         if self.left < 2 {
-            return no_line();
+            return Ok(no_line());
         }
         let known = front(text, self.filled);
         let n = known.len();
         let e = find(known, self.next, b'\n');
         if e < n {
-            return Line {
+            return Ok(Line {
                 start: self.next,
                 end: e,
                 next: e + 1,
                 filled: n,
                 left: self.left - 1,
-            };
+            });
         }
-        read_line(text, self.next, n, self.left - 1)
+        read_line(input, text, self.next, n, self.left - 1)
     }
 }
 
 // Writes out what is in use of a buffer, and tells what is in use then: nothing.
-pub fn flush(out: &[u8], fill: usize) -> usize
-    ensures { result ≡ 0 }
+pub fn flush(output: &mut impl Write, out: &[u8], fill: usize) -> Result<usize>
+    ensures { IfOk result (λ n. n ≡ 0) }
 {
-    io::write_all(STDOUT_FILENO, front(out, fill));
-    0
+    output.write_all(front(out, fill))?;
+    Ok(0)
 }
 
 // Writes a buffer out that has no room for so much more, and tells what is in use then.
-pub fn made_room(out: &[u8], fill: usize, more: usize) -> usize
-    ensures { more ≤ length out.now → result + more ≤ length out.now }
+pub fn made_room(output: &mut impl Write, out: &[u8], fill: usize, more: usize) -> Result<usize>
+    ensures { IfOk result (λ n. more ≤ length out.now → n + more ≤ length out.now) }
 {
     if fill <= out.len() {
         if more <= out.len() - fill {
-            return fill;
+            return Ok(fill);
         }
     }
-    flush(out, fill)
+    flush(output, out, fill)
 }

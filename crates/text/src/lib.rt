@@ -6,6 +6,8 @@
 //   lines       the lines of the dump
 //   scan        the place of a letter, words, decimal and hex digits, lists of numbers
 //   store       stores of numbers
+#![tactic(auto)]
+
 pub mod feed;
 pub mod lines;
 pub mod scan;

@@ -7,7 +7,7 @@ use text::store::{number_at, numbers_of};
 use walk::{ARRAY, BLOB, CHAR6, ENTER, RECORD, SKIP};
 
 // What an event is to be: an event of the input, whose byte places and operand places are moved by so much, down or up.
-#[derive(Drop)]
+#[derive(Clone, Copy)]
 pub struct Demand {
     pub event: u64,
     pub bytes: u64,

@@ -6,7 +6,7 @@ use text::same_bytes;
 use text::scan::{Number, behind_word, decimal, word};
 
 // The bytes of the input where the first block begins, where it ends and the second begins, and where the second ends.
-#[derive(Drop)]
+#[derive(Clone, Copy)]
 pub struct Places {
     pub first: usize,
     pub second: usize,

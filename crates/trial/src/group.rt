@@ -5,7 +5,7 @@ use text::store::{entry, number_at};
 use walk::{ARRAY, CHAR6, ENTER, LEAVE, RECORD, SKIP};
 
 // Events that stand one behind the other: the first one, and the one behind the last.
-#[derive(Drop)]
+#[derive(Clone, Copy)]
 struct Group {
     start: u64,
     end: u64,
@@ -13,7 +13,7 @@ struct Group {
 
 // How many events stand before the two groups, in each of them and behind them; how many bytes and operands each block has; and whether the groups
 // stand apart.
-#[derive(Drop)]
+#[derive(Clone, Copy)]
 pub struct Plan {
     pub before: u64,
     pub first: u64,

@@ -18,6 +18,8 @@
 //
 // `?` stands for the answer to a line that is no question. An empty line and one that begins with `#` are handed back as they stand. A line has 65,536
 // bytes at most.
+#![tactic(auto)]
+
 mod compare;
 mod exchanged;
 mod group;
@@ -29,8 +31,9 @@ ghost use Rattle.std.specs.Prelude.{◌≤◌};
 use exchanged::is_exchange;
 use judge::put_exchange;
 use scan::{Question, STORE, Scan, question_on};
+use std::io::{Read, Result, Write};
 use terms::EVENT_SIZE;
-use text::feed::{Line, flush, made_room};
+use text::feed::{Line, flush, made_room, zeros};
 use text::lines::put_dump;
 use text::scan::{MOST_SKIPS, is_asking};
 use text::store::numbers_of;
@@ -174,23 +177,38 @@ fn put_line(
 }
 
 // Answers every line of the input.
-fn answer_all(text: &mut [u8], out: &mut [u8], events: &mut [u64], operands: &mut [u64]) {
+fn answer_all(
+    input: &mut impl Read,
+    output: &mut impl Write,
+    text: &mut [u8],
+    out: &mut [u8],
+    events: &mut [u64],
+    operands: &mut [u64],
+) -> Result<()> {
     let mut fill = 0;
-    let mut line = Line::first(text);
+    let mut line = Line::first(input, text)?;
     while 0 < line.left {
         let a = line.start;
         let e = line.end;
-        fill = made_room(out, fill, MOST);
+        fill = made_room(output, out, fill, MOST)?;
         fill = put_line(out, fill, &text[a..e], events, operands);
-        line = line.behind(text);
+        line = line.behind(input, text)?;
     }
-    flush(out, fill);
+    flush(output, out, fill)?;
+    Ok(())
 }
 
-fn main() {
+fn main(rt: HostRuntime) -> Result<()> {
     let mut text = io::large_buffer();
-    let mut out = [0u8; ROOM];
+    let mut out = zeros::<ROOM>();
     let mut events = [0u64; STORE];
     let mut operands = [0u64; STORE];
-    answer_all(&mut text, &mut out, &mut events, &mut operands);
+    answer_all(
+        &mut rt.stdin(),
+        &mut rt.stdout(),
+        &mut text,
+        &mut out,
+        &mut events,
+        &mut operands,
+    )
 }

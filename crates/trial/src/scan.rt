@@ -7,7 +7,7 @@ use text::scan::{Count, Number, decimal, find, find_behind, hex, skips};
 pub const STORE: usize = 8_192;
 
 // How many numbers are skipped, how many numbers each store has, and how many bytes the input; numbers and bytes go into lent buffers.
-#[derive(Drop)]
+#[derive(Clone, Copy)]
 pub struct Question {
     pub skips: usize,
     pub events: usize,

@@ -1,0 +1,15 @@
+-- `trial::answer_all` is safe and ends. The line lies in the text, and all that is lent keeps its length. The measure is how many lines may come.
+use Rattle.std.proofs.Common.{◌≡◌, ◌≤◌, length}
+use Rattle.trial.proofs.answer_all.Given as goal
+
+abbrev pub invariant-loop-line : goal.invariant-loop-line
+invariant-loop-line g l =
+    (l.line.start ≤ l.line.end)
+    × (l.line.end ≤ length l.text)
+    × (length l.text ≡ length l.initial.text)
+    × (length l.out ≡ length l.initial.out)
+    × (length l.events ≡ length l.initial.events)
+    × (length l.operands ≡ length l.initial.operands)
+
+abbrev pub decreases-loop-line : goal.decreases-loop-line
+decreases-loop-line g l = l.line.left
