@@ -42,12 +42,12 @@ pub const BLOB_SHAPE: u64 = 66;
 pub struct BlockNumber(pub u64);
 
 // The number of an abbreviation in a block, which counts from 4.
-#[derive(Drop)]
+#[derive(Clone, Copy)]
 pub struct AbbrevNumber(pub u64);
 
 // The abbreviation state: for each slot the operand's kind (0 literal, 1 fixed, 2 VBR, 3 char6) and its width or value; for each row its shape; for
 // each shared row the number of the block that it is for; and how many rows are in use.
-#[derive(Drop)]
+#[derive(Clone, Copy)]
 pub struct Abbreviations {
     pub kinds: [u8; SLOTS],
     pub widths: [u64; SLOTS],
@@ -74,7 +74,7 @@ enum Operand {
 }
 
 // A definition that stands in its row: its shape.
-#[derive(Drop)]
+#[derive(Clone, Copy)]
 pub enum Defined {
     Shape(u64, Cursor),
     Refused(u64, u64, u64),
@@ -111,14 +111,14 @@ enum InfoStep {
 }
 
 // A whole BLOCKINFO: how many shared abbreviations there are behind it; or a refusal's number, place and details.
-#[derive(Drop)]
+#[derive(Clone, Copy)]
 pub enum Info {
     Shared(usize),
     Refused(u64, u64, u64, u64),
 }
 
 // The row that an abbreviation number stands for.
-#[derive(Drop)]
+#[derive(Clone, Copy)]
 pub enum Row {
     At(usize),
     Refused(u64, u64, u64),

@@ -36,64 +36,64 @@ pub struct Signature {
 }
 
 // The header, or the refusal's number.
-#[derive(Drop)]
+#[derive(Clone, Copy)]
 pub enum Parsed {
     Signed(Signature),
     Refused(u64),
 }
 
 // The operands of a record that are not yet taken: the place of the next one in the operand store, and the place behind the last one.
-#[derive(Drop)]
+#[derive(Clone, Copy)]
 pub struct Operands {
     pub at: u64,
     pub end: u64,
 }
 
 // From `start` on, up to `end`, which is not part of it.
-#[derive(Drop)]
+#[derive(Clone, Copy)]
 pub struct Range {
     pub start: u64,
     pub end: u64,
 }
 
 // An operand and the operands behind it, or the refusal's number; so for each type below.
-#[derive(Drop)]
+#[derive(Clone, Copy)]
 pub enum NextU8 {
     Value(u8, Operands),
     Refused(u64),
 }
 
-#[derive(Drop)]
+#[derive(Clone, Copy)]
 pub enum NextU16 {
     Value(u16, Operands),
     Refused(u64),
 }
 
-#[derive(Drop)]
+#[derive(Clone, Copy)]
 pub enum NextU32 {
     Value(u32, Operands),
     Refused(u64),
 }
 
-#[derive(Drop)]
+#[derive(Clone, Copy)]
 pub enum NextU64 {
     Value(u64, Operands),
     Refused(u64),
 }
 
-#[derive(Drop)]
+#[derive(Clone, Copy)]
 pub enum NextBool {
     Value(bool, Operands),
     Refused(u64),
 }
 
-#[derive(Drop)]
+#[derive(Clone, Copy)]
 pub enum NextI64 {
     Value(i64, Operands),
     Refused(u64),
 }
 
-#[derive(Drop)]
+#[derive(Clone, Copy)]
 pub enum NextRange {
     Value(Range, Operands),
     Refused(u64),

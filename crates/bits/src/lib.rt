@@ -17,28 +17,28 @@ pub struct Cursor {
 }
 
 // A number and the cursor behind it, or the refusal's number.
-#[derive(Drop)]
+#[derive(Clone, Copy)]
 pub enum Read {
     Value(u64, Cursor),
     Refused(u64),
 }
 
 // A number that stays unread.
-#[derive(Drop)]
+#[derive(Clone, Copy)]
 pub enum Peek {
     Seen(u64),
     Unseen(u64),
 }
 
 // The moved cursor.
-#[derive(Drop)]
+#[derive(Clone, Copy)]
 pub enum Move {
     To(Cursor),
     Stays(u64),
 }
 
 // A cursor for a part of the stream, and the one behind that part.
-#[derive(Drop)]
+#[derive(Clone, Copy)]
 pub enum Take {
     Taken(Cursor, Cursor),
     Untaken(u64),

@@ -1,6 +1,6 @@
 -- The relocation law, and how it goes through `do`. Two streams agree on the bits lo..hi of the first, moved by a multiple of 32: up - down.
 -- What a reader gets in the first from a place at or behind lo, to a place at or before hi, it gets in the second, moved. Assumes nothing.
-use mathlib.Core.Path.{◌≡◌, refl, sym, ap, ap₂, ◌∙◌, subst}
+use mathlib.Core.Path.{◌≡◌, refl, sym, ap, ap₂, subst}
 use mathlib.Core.Bool.{Bool, true, false, false≢true}
 use mathlib.Core.List.{List}
 use Prim.Native.Nat.{ℕ, ◌+◌, ◌-◌, ◌*◌, ◌/◌, ◌%◌, ◌≤◌, ◌<◌, min}
@@ -11,7 +11,7 @@ use borrow.Author.Tests.{leb-true, leb-false, ltb-true, lt-ltb}
 use Rattle.terms.specs.Refusals.{No, no}
 use Rattle.bits.specs.Reader.{Reader, Answer, got, refused, onward, require, if◌then◌else◌, here, turns, at_place}
 use Rattle.bits.specs.Bits.{bit, limit}
-use Rattle.walk.specs.Item.{Pass, within}
+use Rattle.walk.specs.Item.{Pass}
 use Rattle.relocation.proofs.Shift.{mv}
 
 pub record Window (s s' : List ℕ) (lo hi up down : ℕ) : Type 0 where
@@ -289,7 +289,7 @@ module _ {s s' : List ℕ} {lo hi up down : ℕ} {win : Window s s' lo hi up dow
   unfolding turns
   turned e e' m m' w = rw win.lengths (w _)
 
-  behind : {R A B : Type 0} {P : Type 0} {K : A → Type 0} {F : A → Type 0} {f : A → B} {e p e₁ : ℕ} {x : Answer R A} {x' : Answer R B}
+  pub behind : {R A B : Type 0} {P : Type 0} {K : A → Type 0} {F : A → Type 0} {f : A → B} {e p e₁ : ℕ} {x : Answer R A} {x' : Answer R B}
       (n : ℕ) → lo ≤ p → limit s e₁ ≡ p + 8 * n → p + 8 * n ≤ limit s e → Moved win e₁ P (λ a _. K a) F f p x x'
       → Moved win e P (λ a q. K a × (q ≡ p + 8 * n)) F f p
       (onward x (λ a q. got a (p + 8 * n))) (onward x' (λ a q. got a (mv up down p + 8 * n)))
@@ -312,23 +312,3 @@ module _ {s s' : List ℕ} {lo hi up down : ℕ} {win : Window s s' lo hi up dow
 pub inner_limit : (l : List ℕ) (e p n : ℕ) → p % 32 ≡ 0 → p + 8 * n ≤ limit l e → limit l (p / 8 + n) ≡ p + 8 * n
 unfolding limit
 inner_limit l e p n z h = omega arith
-
-module _ {s s' : List ℕ} {lo hi up down : ℕ} {win : Window s s' lo hi up down} where
-  inner_exact : {p : ℕ} (e e' : ℕ) → lo ≤ p → (n : ℕ) → p % 32 ≡ 0 → p + 8 * n ≤ limit s e → mv up down p + 8 * n ≤ limit s' e'
-      → Exact win (p / 8 + n) (mv up down p / 8 + n)
-  inner_exact {p} e e' h n z f f' = record {
-    exact =
-        ap (λ x. x + down) (inner_limit s' e' (mv up down p) n (omega arith) f')
-        ∙ (let w : mv up down p + 8 * n + down ≡ p + 8 * n + up = omega arith in w)
-        ∙ sym (ap (λ x. x + up) (inner_limit s e p n z f));
-  }
-
-  -- a body: what is known and asked of its value is known and asked behind it
-  pub withins : {R A B : Type 0} {P : Type 0} {K : A → Type 0} {F : A → Type 0} {f : A → B} {e p : ℕ} (e' : ℕ) → lo ≤ p
-      → (n : ℕ) (m : Reader R A) (m' : Reader R B)
-      → p % 32 ≡ 0 → p + 8 * n ≤ limit s e → mv up down p + 8 * n ≤ limit s' e'
-      → (Exact win (p / 8 + n) (mv up down p / 8 + n)
-      → Moved win (p / 8 + n) P (λ a _. K a) F f p (m s (p / 8 + n) p) (m' s' (mv up down p / 8 + n) (mv up down p)))
-      → Runs win e e' p P (λ a q. K a × (q ≡ p + 8 * n)) F f (within n m) (within n m')
-  unfolding within
-  withins {e} {p} e' h n m m' z g g' w = behind n h (inner_limit s e p n z g) g (w (inner_exact e e' h n z g g'))

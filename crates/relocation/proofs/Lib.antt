@@ -1,5 +1,6 @@
 pub mod Shift
 pub mod Law
+pub mod Bodies
 pub mod Readers
 pub mod Moves
 pub mod Apart

@@ -15,7 +15,8 @@ use Rattle.walk.specs.Piece.{Head, head, Piece, the_record, definition, blockinf
 use Rattle.walk.specs.Item.{Context, Begun, closing, heads, defines, records, heading, used, begun, begin, Opening, ended, defined, recorded, headed, event_room, leave_room, fits, finish, at_end, opening, Pass, Sub, body_of, complete, item, going_on, items, nested}
 use Rattle.walk.proofs.Answers.{PartFits, tail, top_ends, size_of, Takes, Inner, Holds}
 use Rattle.relocation.proofs.Shift.{mv, Wants, Began, Stands, Headed, move_record, move_part, move_head, move_begun, PartFine, HeadFine, Fitting, Front, FrontAsks, Asks, Open, Fine, Fines, Made, move_piece, move_pieces, move_opening, move_option, store_move, count_move, Like, after_like, entered_like}
-use Rattle.relocation.proofs.Law.{Window, Free, same, Ends, Exact, Passes, Runs, Tells, exact_ends, recast, on, so, through, giving, giving_as, gives, stops, requires, roomy, rooms, branch, branch_on, branch_by, here_moves, places, turned, withins}
+use Rattle.relocation.proofs.Law.{Window, Free, same, Ends, Exact, Passes, Runs, Tells, exact_ends, recast, on, so, through, giving, giving_as, gives, stops, requires, roomy, rooms, branch, branch_on, branch_by, here_moves, places, turned}
+use Rattle.relocation.proofs.Bodies.{withins}
 use Rattle.relocation.proofs.Readers.{reads_at, aligns_at, aligns, vbrs, define_moves, numbers_at, lookup_moves, scalar_part_moves, unabbreviated_moves, rest_moves, info_moves}
 
 -- two tests with the same outcome

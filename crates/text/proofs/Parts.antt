@@ -9,10 +9,10 @@ use lib.Seq.{take_all}
 use Rattle.text.specs.Text.{items}
 use Rattle.text.specs.Dump.{codes, listed, entry, event_line, event_lines}
 
-pub get_d_out : (l : List ℕ) (i : ℕ) → length l ≤ i → get_or l i 0 ≡ 0
-get_d_out [] i h = refl
-get_d_out (x ∷ xs) zero h = absurd (omega arith)
-get_d_out (x ∷ xs) (suc i) h = get_d_out xs i (omega arith)
+pub get_or_out : (l : List ℕ) (i : ℕ) → length l ≤ i → get_or l i 0 ≡ 0
+get_or_out [] i h = refl
+get_or_out (x ∷ xs) zero h = absurd (omega arith)
+get_or_out (x ∷ xs) (suc i) h = get_or_out xs i (omega arith)
 
 -- nothing is left from past the end on, and all that is left is what more would be
 pub part_outside : (l : List ℕ) (place count : ℕ) → length l < place → take count (drop place l) ≡ []

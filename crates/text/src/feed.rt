@@ -17,7 +17,7 @@ pub fn zeros<const N: usize>() -> [u8; N]
 
 // A line of the input: where it starts and ends in the buffer, its line end left out; where the next one starts and where what is read ends; and how many
 // lines there may be from this one on, 0 where there is none.
-#[derive(Drop)]
+#[derive(Clone, Copy)]
 pub struct Line {
     pub start: usize,
     pub end: usize,

@@ -7,13 +7,13 @@ use crate::store::set_number;
 // The most block numbers to skip that a question has.
 pub const MOST_SKIPS: usize = 32;
 
-#[derive(Drop)]
+#[derive(Clone, Copy)]
 pub enum Number {
     Is(u64),
     Not,
 }
 
-#[derive(Drop)]
+#[derive(Clone, Copy)]
 pub enum Count {
     Is(usize),
     Not,
