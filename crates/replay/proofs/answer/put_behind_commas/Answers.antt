@@ -1,5 +1,4 @@
 -- `replay::answer::put_behind_commas` meets its contract: what is put so far is the text of the numbers so far. Assumes nothing.
-use Prim.Native.Nat.{◌-◌}
 use native.Mathlib.Omega.{arith}
 use Rattle.text.specs.Dump.{codes, named}
 use Rattle.text.proofs.Puts.{puts_none}

@@ -1,6 +1,5 @@
 -- `replay::answer::put_events` meets its contract: what is put so far is the text of the events so far. Assumes nothing.
 use mathlib.Core.Path.{◌≡◌, ◌∙◌}
-use Prim.Native.Nat.{◌-◌}
 use native.Mathlib.Omega.{arith}
 use Rattle.text.proofs.Puts.{puts_none, puts_then}
 use Rattle.replay.specs.Answer.{event_texts}
