@@ -9,7 +9,7 @@ use lib.ListN.{length}
 use borrow.Author.Tests.{ltb-true}
 use Rattle.terms.specs.Limits.{max_operands, max_shared}
 use Rattle.terms.specs.Refusals.{No, no, Refusal}
-use Rattle.bits.specs.Reader.{Reader, Answer, got, refused, if◌then◌else◌}
+use Rattle.bits.specs.Reader.{Reader, Answer, got, refused, when◌then◌else◌}
 use Rattle.bits.specs.Bits.{in_range}
 use Rattle.bits.proofs.Answers.{Known, KnownAt, Has, Answers, on, gives, stops, branch, weaker, requires, heres, places, aligns, reads, vbrs}
 use Rattle.abbrev.specs.Abbrev.{Abbrev, Operand, scalar, is_array, is_blob, width, kind, operand, element, rest_of, operands, define, number_of, look_up}
@@ -70,7 +70,7 @@ lookups r (suc i) (a ∷ xs) k = lookups r i xs k
 -- ---- BLOCKINFO
 readables : {A : Type 0} (r : No) {m : Reader No A} {s : List ℕ} {e p : ℕ} {K : A → ℕ → Type 0} → Known r → Answers m s e p K Known
     → Answers (readable every r m) s e p K Known
-unfolding readable or_else every if◌then◌else◌ Has
+unfolding readable or_else every when◌then◌else◌ Has
 readables {A} r {m} {s} {e} {p} {K} k x = record { has = go (m s e p) x.has }
   where
     go : (z : Answer No A) → Has s e p K Known z → Has s e p K Known (or_else every r z)

@@ -11,7 +11,7 @@ use lib.Seq.{get_or-set_same, get_or-take, take_all, take_at, drop-cons, set_at}
 use lib.Dec.{ltb, leb, eqb}
 use borrow.Author.Tests.{ltb-true, ltb-false, leb-true, lt-ltb, le-ltb, le-leb, eq-eqb, ne_eqb}
 use Rattle.terms.specs.Refusals.{No}
-use Rattle.bits.specs.Reader.{got, refused, give, stop, if◌then◌else◌}
+use Rattle.bits.specs.Reader.{got, refused, give, stop, when◌then◌else◌}
 use Rattle.bits.proofs.Laws.{and_true}
 use Rattle.bits.proofs.Steps.{arms}
 use Rattle.abbrev.specs.Abbrev.{Abbrev, look_up}
@@ -184,33 +184,33 @@ block_rows_length t own base local =
 -- ---- the shared rows for a block
 module _ (b : ℕ) where
   shared_positions : (t : Tables) (j n : ℕ) → shared_for b (shareds t j n) ≡ map (row_of t) (positions b t.owners j n)
-  unfolding shareds shared_for positions if◌then◌else◌
+  unfolding shareds shared_for positions when◌then◌else◌
   shared_positions t j zero = refl
   shared_positions t j (suc n) = go (shared_positions t (j + 1) n) (eqb (get_or t.owners j 0) b)
     where
       go : shared_for b (shareds t (j + 1) n) ≡ map (row_of t) (positions b t.owners (j + 1) n) → (x : Bool)
-          → (if x then row_of t j ∷ shared_for b (shareds t (j + 1) n) else shared_for b (shareds t (j + 1) n))
-          ≡ map (row_of t) (if x then j ∷ positions b t.owners (j + 1) n else positions b t.owners (j + 1) n)
+          → (when x then row_of t j ∷ shared_for b (shareds t (j + 1) n) else shared_for b (shareds t (j + 1) n))
+          ≡ map (row_of t) (when x then j ∷ positions b t.owners (j + 1) n else positions b t.owners (j + 1) n)
       go z true = ap (λ xs. row_of t j ∷ xs) z
       go z false = z
 
   positions_length : (owners : List ℕ) (j n : ℕ) → length (positions b owners j n) ≤ n
-  unfolding positions if◌then◌else◌
+  unfolding positions when◌then◌else◌
   positions_length owners j zero = omega arith
   positions_length owners j (suc n) = go (positions_length owners (j + 1) n) (eqb (get_or owners j 0) b)
     where
-      go : length (positions b owners (j + 1) n) ≤ n → (x : Bool) → length (if x then j ∷ positions b owners (j + 1) n else positions b owners (j + 1) n) ≤ suc n
+      go : length (positions b owners (j + 1) n) ≤ n → (x : Bool) → length (when x then j ∷ positions b owners (j + 1) n else positions b owners (j + 1) n) ≤ suc n
       go z true = omega arith
       go z false = omega arith
 
   positions_below : (owners : List ℕ) (j n i : ℕ) → i < length (positions b owners j n) → get_or (positions b owners j n) i 0 < j + n
-  unfolding positions if◌then◌else◌
+  unfolding positions when◌then◌else◌
   positions_below owners j zero i h = absurd (omega arith)
   positions_below owners j (suc n) i h = go (positions_below owners (j + 1) n) (eqb (get_or owners j 0) b) i h
     where
       go : ((i : ℕ) → i < length (positions b owners (j + 1) n) → get_or (positions b owners (j + 1) n) i 0 < j + 1 + n) → (x : Bool) (i : ℕ)
-          → i < length (if x then j ∷ positions b owners (j + 1) n else positions b owners (j + 1) n)
-          → get_or (if x then j ∷ positions b owners (j + 1) n else positions b owners (j + 1) n) i 0 < j + suc n
+          → i < length (when x then j ∷ positions b owners (j + 1) n else positions b owners (j + 1) n)
+          → get_or (when x then j ∷ positions b owners (j + 1) n else positions b owners (j + 1) n) i 0 < j + suc n
       go z true zero h = omega arith
       go z true (suc i) h = omega (arith, z i (omega arith))
       go z false i h = omega (arith, z i h)
@@ -245,12 +245,12 @@ picking_start b owners rows₀ many =
     record { front = []; size = refl; split = ap (positions b owners 0) z; held = refl; inside = omega arith }
 
 positions_turn : (b : ℕ) (owners : List ℕ) (j n : ℕ) → 0 < n
-    → positions b owners j n ≡ (if eqb (get_or owners j 0) b then j ∷ positions b owners (j + 1) (n - 1) else positions b owners (j + 1) (n - 1))
+    → positions b owners j n ≡ (when eqb (get_or owners j 0) b then j ∷ positions b owners (j + 1) (n - 1) else positions b owners (j + 1) (n - 1))
 unfolding positions
 positions_turn b owners j zero h = absurd (omega arith)
 positions_turn b owners j (suc n) h =
     let z : n ≡ suc n - 1 = omega arith in
-    ap (λ m. if eqb (get_or owners j 0) b then j ∷ positions b owners (j + 1) m else positions b owners (j + 1) m) z
+    ap (λ m. when eqb (get_or owners j 0) b then j ∷ positions b owners (j + 1) m else positions b owners (j + 1) m) z
 
 module _ {b : ℕ} {owners rows₀ : List ℕ} {many : ℕ} {rows : List ℕ} {j k : ℕ} (p : Picking b owners rows₀ many rows j k) where
   pub picking_length : length rows ≡ length rows₀
@@ -260,7 +260,7 @@ module _ {b : ℕ} {owners rows₀ : List ℕ} {many : ℕ} {rows : List ℕ} {j
 
   -- the row j is for the block
   pub picking_more : j < many → k < length rows₀ → get_or owners j 0 ≡ b → Picking b owners rows₀ many (set rows k j) (j + 1) (k + 1)
-  unfolding if◌then◌else◌
+  unfolding when◌then◌else◌
   picking_more h l i =
       let x : many - j - 1 ≡ many - (j + 1) = omega arith in
       record {
@@ -279,7 +279,7 @@ module _ {b : ℕ} {owners rows₀ : List ℕ} {many : ℕ} {rows : List ℕ} {j
 
   -- it is not
   pub picking_less : j < many → (get_or owners j 0 ≡ b → ⊥) → Picking b owners rows₀ many rows (j + 1) k
-  unfolding if◌then◌else◌
+  unfolding when◌then◌else◌
   picking_less h i =
       let x : many - j - 1 ≡ many - (j + 1) = omega arith in
       record {
@@ -397,20 +397,20 @@ module _ (own : List ℕ) (base local n : ℕ) where
 
   -- forward, by the tests
   pub row_low : n < 4 → row_at own base local n ≡ nothing
-  unfolding row_at if◌then◌else◌
+  unfolding row_at when◌then◌else◌
   row_low h = rw (lt-ltb n 4 h)
 
   pub row_own : 4 ≤ n → n - 4 < length own → row_at own base local n ≡ some (get_or own (n - 4) 0)
-  unfolding row_at if◌then◌else◌
+  unfolding row_at when◌then◌else◌
   row_own h l = rw (le-ltb n 4 h, lt-ltb (n - 4) (length own) l)
 
   pub row_local : 4 ≤ n → length own ≤ n - 4 → local ≤ 32 → n - 4 - length own < local - base
       → row_at own base local n ≡ some (first_local + base + (n - 4 - length own))
-  unfolding row_at if◌then◌else◌
+  unfolding row_at when◌then◌else◌
   row_local h l m i = rw (le-ltb n 4 h, le-ltb (n - 4) (length own) l, le-leb local 32 m, lt-ltb (n - 4 - length own) (local - base) i)
 
   pub row_past : 4 ≤ n → length own ≤ n - 4 → (local ≤ 32 → local - base ≤ n - 4 - length own) → row_at own base local n ≡ nothing
-  unfolding row_at if◌then◌else◌
+  unfolding row_at when◌then◌else◌
   row_past h l m = rw (le-ltb n 4 h, le-ltb (n - 4) (length own) l, fails (leb local 32) refl)
     where
       fails : (x : Bool) → leb local 32 ≡ x → x && ltb (n - 4 - length own) (local - base) ≡ false

@@ -12,7 +12,7 @@ use lib.Dec.{leb}
 use borrow.Author.Tests.{lt-ltb, le-ltb, le-leb, lt-leb, leb-true}
 use Rattle.terms.specs.Refusals.{No, no, Refusal, refusal, value_overflow, missing_set_bid, no_abbreviation_room}
 use Rattle.bits.specs.declared.Cursor.{Cursor}
-use Rattle.bits.specs.Reader.{Reader, Answer, got, refused, onward, ◌>>=◌, give, stop, require, if◌then◌else◌, here, turns, at_place, placed}
+use Rattle.bits.specs.Reader.{Reader, Answer, got, refused, onward, ◌>>=◌, give, stop, require, when◌then◌else◌, here, turns, at_place, placed}
 use Rattle.bits.specs.Bits.{limit, vbr}
 use Rattle.bits.specs.Told.{At, Off}
 use Rattle.bits.proofs.Steps.{on, then_off, off, ends, pass, fail, never, apart, passed, mapped, mapped_twice, mapped_same, gives_mapped, mapped_got, mapped_off, so, so_off}
@@ -37,7 +37,7 @@ pass_so r f s e p i = rw i
 
 -- ---- a number that has to be readable
 hidden : {A : Type 0} (r r' : No) → or_else {A = A} every r (refused r') ≡ refused r
-unfolding or_else every if◌then◌else◌
+unfolding or_else every when◌then◌else◌
 hidden r (no n x y) = refl
 
 module _ {A : Type 0} (r : No) {m : Reader No A} {s : List ℕ} {e p : ℕ} where
@@ -171,21 +171,21 @@ module _ (row kinds widths : ℕ) (i : row < row_count) (j : row_size * row + ro
 module _ {s : List ℕ} {e p : ℕ} where
   -- no block is chosen
   pub definition_unchosen : (have : ℕ) → Off (info_numbered every nothing have 2) s e p missing_set_bid
-  unfolding info_numbered if◌then◌else◌ info_definition chosen stop
+  unfolding info_numbered when◌then◌else◌ info_definition chosen stop
   definition_unchosen have = off _ (off _ record { why = refl })
 
   module _ (b have : ℕ) where
     pub definition_off : {r : No} → Off define s e p r → Off (info_numbered every (some b) have 2) s e p r
-    unfolding info_numbered if◌then◌else◌ info_definition chosen
+    unfolding info_numbered when◌then◌else◌ info_definition chosen
     definition_off o = off _ (then_off _ (ends {d = record { at = p; end = e }}) (off _ o))
 
     module _ {a : Abbrev} {d : Cursor} (x : At define s e p a d) where
       pub definition_full : 32 ≤ have → Off (info_numbered every (some b) have 2) s e p no_abbreviation_room
-      unfolding info_numbered if◌then◌else◌ info_definition chosen
+      unfolding info_numbered when◌then◌else◌ info_definition chosen
       definition_full l = off _ (then_off _ (ends {d = record { at = p; end = e }}) (then_off _ x (fail _ (le-ltb have 32 l))))
 
       pub definition_adds : have < 32 → At (info_numbered every (some b) have 2) s e p (info_adds (shared b a)) d
-      unfolding info_numbered if◌then◌else◌ info_definition chosen
+      unfolding info_numbered when◌then◌else◌ info_definition chosen
       definition_adds l = on _ (on _ (ends {d = record { at = p; end = e }}) (on _ x (pass _ _ (lt-ltb have 32 l) ends))) ends
 
 -- an item is what its number says

@@ -10,7 +10,7 @@ use lib.Seq.{get_or-set_same, get_or-set_other}
 use lib.Dec.{ltb, leb}
 use borrow.Author.Tests.{le-leb, lt-ltb}
 use Rattle.terms.specs.Refusals.{No}
-use Rattle.bits.specs.Reader.{Answer, got, refused, ◌>>=◌, give, if◌then◌else◌}
+use Rattle.bits.specs.Reader.{Answer, got, refused, ◌>>=◌, give, when◌then◌else◌}
 use Rattle.bits.specs.Bits.{vbr}
 use Rattle.bits.specs.declared.Cursor.{Cursor}
 use Rattle.bits.specs.Told.{At, Off}
@@ -190,7 +190,7 @@ turn_start s c total base kinds widths h l m = record {
 module _ {s : List ℕ} {c₀ : Cursor} {total base : ℕ} {kinds₀ widths₀ kinds widths : List ℕ} {c : Cursor} {i left : ℕ}
     (t : Turn s c₀ total base kinds₀ widths₀ kinds widths c i left) where
   pub turn_none : left ≡ 0 → At (operands total) s c₀.end c₀.at (abbrev_of kinds widths base i) c
-  unfolding load_of if◌then◌else◌
+  unfolding load_of when◌then◌else◌
   turn_none h = record {
     gives = going_none t.going h ∙ ap (λ a. got a c.at) (sym (abbrev_is kinds widths base i 0 (omega (arith, t.sum, t.few)) (omega arith)));
     ends = t.same_end;
@@ -201,7 +201,7 @@ module _ {s : List ℕ} {c₀ : Cursor} {total base : ℕ} {kinds₀ widths₀ k
 
   pub turn_blob : {d : Cursor} → 0 < left → At (operand (left - 1)) s c.end c.at is_blob d
       → At (operands total) s c₀.end c₀.at (abbrev_of kinds widths base (i + blob_shape)) d
-  unfolding load_of if◌then◌else◌
+  unfolding load_of when◌then◌else◌
   turn_blob {d} h o =
       let o₂ = rw t.same_end at o in
       record {
@@ -212,7 +212,7 @@ module _ {s : List ℕ} {c₀ : Cursor} {total base : ℕ} {kinds₀ widths₀ k
   pub turn_array : {d : Cursor} {kinds' widths' : List ℕ} (r : Defined) → 0 < left → At (operand (left - 1)) s c.end c.at is_array d
       → Outside (base + i) (base + i + 1) kinds kinds' → Outside (base + i) (base + i + 1) widths widths' → Elements d s kinds' widths' base i r
       → Defines c₀ s (operands total) kinds' widths' base r
-  unfolding load_of if◌then◌else◌
+  unfolding load_of when◌then◌else◌
   turn_array {d} {kinds'} {widths'} (F.Shape shape g) h o k w z =
       let o₂ = rw t.same_end at o in
       let z₂ = rw o₂.ends at z.0 in

@@ -2,7 +2,7 @@
 use Rattle.std.specs.Prelude.{◌&&◌, List, [], ◌∷◌, ℕ, zero, suc, leb, eqb}
 use Rattle.terms.specs.Limits.{max_operands}
 use Rattle.terms.specs.Refusals.{No, vbr_overflow, invalid_abbrev, unexpected_operand, abbrev_width_too_small, no_abbreviation_room}
-use Rattle.bits.specs.Reader.{Reader, ◌>>=◌, ◌>>◌, give, stop, require, if◌then◌else◌}
+use Rattle.bits.specs.Reader.{Reader, ◌>>=◌, ◌>>◌, give, stop, require, when◌then◌else◌}
 use Rattle.bits.specs.Bits.{in_range, read, vbr}
 use Rattle.bitcode.specs.declared.ScalarOperand.{ScalarOperand}
 use Rattle.bitcode.specs.declared.ScalarOperand.TheVariants.{Literal, Fixed, Vbr, Char6}
@@ -30,18 +30,18 @@ width = do
 -- "1 Fixed, 2 VBR, 3 Array only with exactly one operand left, 4 Char6, 5 Blob only with none left; anything else 5"; `left` counts those behind this one
 unfoldable pub kind : ℕ → ℕ → Reader No Operand
 kind left k =
-    if eqb k 1 then (do w ← width; give (scalar (Fixed w))) else
-    if eqb k 2 then (do w ← width; give (scalar (Vbr w))) else
-    if eqb k 3 && eqb left 1 then give is_array else
-    if eqb k 4 then give (scalar Char6) else
-    if eqb k 5 && eqb left 0 then give is_blob else
+    when eqb k 1 then (do w ← width; give (scalar (Fixed w))) else
+    when eqb k 2 then (do w ← width; give (scalar (Vbr w))) else
+    when eqb k 3 && eqb left 1 then give is_array else
+    when eqb k 4 then give (scalar Char6) else
+    when eqb k 5 && eqb left 0 then give is_blob else
     stop invalid_abbrev
 
 -- "Each operand: 1 bit; if 1, literal vbr8. Else 3 bits"
 unfoldable pub operand : ℕ → Reader No Operand
 operand left = do
   literal ← read 1
-  if eqb literal 1 then (do v ← vbr 8; give (scalar (Literal v))) else (do k ← read 3; kind left k)
+  when eqb literal 1 then (do v ← vbr 8; give (scalar (Literal v))) else (do k ← read 3; kind left k)
 
 -- "An array element is read as an operand itself: literal allowed, array gives 5, blob gives 6"
 unfoldable pub element : Operand → Reader No Abbrev

@@ -3,7 +3,7 @@ use Rattle.std.specs.Prelude.{Bool, true, List, [], ◌∷◌, ℕ, zero, suc, �
 use Rattle.std.proofs.Math.Option.{Option, none as nothing, some}
 use Rattle.terms.specs.Limits.{max_shared}
 use Rattle.terms.specs.Refusals.{No, no, Refusal, at_bit, buffer_overflow, no_such_abbrev, missing_set_bid, nested_block_in_block_info, invalid_block_info_record, value_overflow, no_abbreviation_room}
-use Rattle.bits.specs.Reader.{Reader, Answer, got, refused, ◌>>=◌, ◌>>◌, give, stop, require, if◌then◌else◌, here, placed}
+use Rattle.bits.specs.Reader.{Reader, Answer, got, refused, ◌>>=◌, ◌>>◌, give, stop, require, when◌then◌else◌, here, placed}
 use Rattle.bits.specs.Bits.{align, vbr}
 use Rattle.abbrev.specs.Abbrev.{Abbrev, define, number_of}
 
@@ -14,7 +14,7 @@ pub data Shared : Type 0 where
 -- "the shared ones for this block number", as they stand in a list
 unfoldable pub shared_for : ℕ → List Shared → List Abbrev
 shared_for b [] = []
-shared_for b (shared c a ∷ xs) = if eqb c b then a ∷ shared_for b xs else shared_for b xs
+shared_for b (shared c a ∷ xs) = when eqb c b then a ∷ shared_for b xs else shared_for b xs
 
 -- ---- "readable": where the number can't be read, the refusal is r. `hides` says of which refusal numbers this holds: of all, `every`.
 -- (A reader that gets a log in pieces can't hide a 2 while more bytes may come.)
@@ -26,7 +26,7 @@ every n = true
 
 unfoldable pub or_else : {A : Type 0} → Hides → No → Answer No A → Answer No A
 or_else hides r (got a q) = got a q
-or_else hides r (refused (no n x y)) = if hides n then refused r else refused (no n x y)
+or_else hides r (refused (no n x y)) = when hides n then refused r else refused (no n x y)
 
 unfoldable pub readable : {A : Type 0} → Hides → No → Reader No A → Reader No A
 readable hides r m = λ s e p. or_else hides r (m s e p)
@@ -81,9 +81,9 @@ unfoldable pub info_record : Hides → Option ℕ → Reader No (Option ℕ)
 info_record hides now = do
   code ← vbr 6
   n ← vbr 6
-  if eqb code 1 then set_bid hides n else
-      if eqb code 2 then block_name now n else
-      if eqb code 3 then record_name hides now n else
+  when eqb code 1 then set_bid hides n else
+      when eqb code 2 then block_name now n else
+      when eqb code 3 then record_name hides now n else
       stop (invalid_block_info_record code)
 
 -- an item: the end, one shared abbreviation more, or the block number that is chosen behind a record
@@ -95,10 +95,10 @@ pub data InfoItem : Type 0 where
 -- "number 0 aligns and ends; 1 gives 11; 4 and up gives 8 with block 0"
 unfoldable pub info_numbered : Hides → Option ℕ → ℕ → ℕ → Reader No InfoItem
 info_numbered hides now have n =
-    if eqb n 0 then (do align; give info_end) else
-    if eqb n 1 then stop nested_block_in_block_info else
-    if eqb n 2 then (do x ← info_definition now have; give (info_adds x)) else
-    if eqb n 3 then (do b ← info_record hides now; give (info_now b)) else
+    when eqb n 0 then (do align; give info_end) else
+    when eqb n 1 then stop nested_block_in_block_info else
+    when eqb n 2 then (do x ← info_definition now have; give (info_adds x)) else
+    when eqb n 3 then (do b ← info_record hides now; give (info_now b)) else
     stop (no_such_abbrev n 0)
 
 -- "BLOCKINFO has no test for the end of its bits (a number that can't be read gives 2, a width outside 1..32 3)"

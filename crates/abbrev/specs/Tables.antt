@@ -4,7 +4,7 @@ use Rattle.std.specs.Prelude.{◌≡◌, Bool, ◌&&◌, List, [], ◌∷◌, �
 use Rattle.std.proofs.Math.Option.{Option, none as nothing, some}
 use Rattle.terms.specs.Limits.{max_shared, max_local}
 use Rattle.terms.specs.Refusals.{No, no, Refusal, refusal, at_bit, no_abbreviation_room}
-use Rattle.bits.specs.Reader.{Reader, got, refused, ◌>>=◌, ◌>>◌, require, if◌then◌else◌, here, turns}
+use Rattle.bits.specs.Reader.{Reader, got, refused, ◌>>=◌, ◌>>◌, require, when◌then◌else◌, here, turns}
 use Rattle.bits.specs.Told.{Told, told, refuses, At, Off}
 use Rattle.bits.specs.declared.Cursor.{Cursor}
 use Rattle.bitcode.specs.declared.ScalarOperand.{ScalarOperand}
@@ -61,9 +61,9 @@ blob_shape = 66
 -- ---- a slot holds a scalar operand: a kind, and a width or a value
 unfoldable pub scalar_of : ℕ → ℕ → ScalarOperand
 scalar_of k v =
-    if eqb k 0 then Literal v else
-    if eqb k 1 then Fixed v else
-    if eqb k 2 then Vbr v else Char6
+    when eqb k 0 then Literal v else
+    when eqb k 1 then Fixed v else
+    when eqb k 2 then Vbr v else Char6
 
 abbrev pub slot : List ℕ → List ℕ → ℕ → ScalarOperand
 slot kinds widths i = scalar_of (get_or kinds i 0) (get_or widths i 0)
@@ -75,7 +75,7 @@ slots kinds widths i (suc n) = slot kinds widths i ∷ slots kinds widths (i + 1
 
 -- ---- a row holds an abbreviation: its shape is the count of its scalars, and so many times its payload as a row has slots
 unfoldable pub load_of : ℕ → ScalarOperand → Payload
-load_of l element = if eqb l 0 then none else if eqb l 1 then array element else blob
+load_of l element = when eqb l 0 then none else when eqb l 1 then array element else blob
 
 unfoldable pub abbrev_of : List ℕ → List ℕ → ℕ → ℕ → Abbrev
 abbrev_of kinds widths base shape =
@@ -218,7 +218,7 @@ InfoIs c s m have t t' (B.Refused n place x y) = m s c.end c.at ≡ refused (ref
 -- of n shared rows from j on, those that are for the block b
 unfoldable pub positions : ℕ → List ℕ → ℕ → ℕ → List ℕ
 positions b owners j zero = []
-positions b owners j (suc n) = if eqb (get_or owners j 0) b then j ∷ positions b owners (j + 1) n else positions b owners (j + 1) n
+positions b owners j (suc n) = when eqb (get_or owners j 0) b then j ∷ positions b owners (j + 1) n else positions b owners (j + 1) n
 
 -- as many of them as there is room for
 unfoldable pub picked : ℕ → List ℕ → ℕ → ℕ → List ℕ
@@ -227,9 +227,9 @@ picked b owners have room = take room (positions b owners 0 (min (min have max_s
 -- the row that the number n stands for
 unfoldable pub row_at : List ℕ → ℕ → ℕ → ℕ → Option ℕ
 row_at own base local n =
-    if ltb n 4 then nothing else
-    if ltb (n - 4) (length own) then some (get_or own (n - 4) 0) else
-    if leb local max_local && ltb (n - 4 - length own) (local - base) then some (first_local + base + (n - 4 - length own)) else nothing
+    when ltb n 4 then nothing else
+    when ltb (n - 4) (length own) then some (get_or own (n - 4) 0) else
+    when leb local max_local && ltb (n - 4 - length own) (local - base) then some (first_local + base + (n - 4 - length own)) else nothing
 
 abbrev pub of_row : ℕ → ℕ → Option ℕ → Row
 of_row block number (some row) = R.At row

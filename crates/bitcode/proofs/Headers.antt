@@ -10,7 +10,7 @@ use lib.ListN.{length, take, drop}
 use lib.Seq.{take-nil, take-length}
 use lib.Dec.{ltb, leb, eqb}
 use borrow.Author.Tests.{lt-ltb, le-ltb, le-leb, lt-leb, eq-eqb, ne_eqb, ltb-false, leb-true, eqb-true, eqb-false}
-use Rattle.bits.specs.Reader.{if◌then◌else◌}
+use Rattle.bits.specs.Reader.{when◌then◌else◌}
 use Rattle.bitcode.specs.declared.Signature.{Signature}
 use Rattle.bitcode.specs.declared.Parsed.TheVariants.{Signed, Refused}
 use Rattle.bitcode.specs.Header.{word, wrapper_magic, Opened, unsigned, opened, wrapped, signature, parsed, stream, bytes_of}
@@ -25,32 +25,32 @@ wrapped_header bs =
 
 module _ (bs : List ℕ) where
   pub signature_short : length bs < 4 → signature bs ≡ unsigned
-  unfolding signature if◌then◌else◌
+  unfolding signature when◌then◌else◌
   signature_short h = rw (lt-ltb _ _ h)
 
   pub signature_wrapped : 4 ≤ length bs → word bs 0 ≡ wrapper_magic → signature bs ≡ wrapped bs
-  unfolding signature if◌then◌else◌
+  unfolding signature when◌then◌else◌
   signature_wrapped h e = rw (le-ltb _ _ h, eq-eqb _ _ e)
 
   pub signature_plain : 4 ≤ length bs → (word bs 0 ≡ wrapper_magic → ⊥) → signature bs ≡ opened (plain_header bs) (drop 4 bs)
-  unfolding signature if◌then◌else◌
+  unfolding signature when◌then◌else◌
   signature_plain h e = rw (le-ltb _ _ h, ne_eqb _ _ e)
 
   pub wrapped_short : length bs < 20 → wrapped bs ≡ unsigned
-  unfolding wrapped if◌then◌else◌
+  unfolding wrapped when◌then◌else◌
   wrapped_short h = rw (lt-ltb _ _ h)
 
   pub wrapped_outside : 20 ≤ length bs → length bs < word bs 8 + word bs 12 → wrapped bs ≡ unsigned
-  unfolding wrapped if◌then◌else◌
+  unfolding wrapped when◌then◌else◌
   wrapped_outside h o = rw (le-ltb _ _ h, lt-leb _ _ o)
 
   pub wrapped_small : 20 ≤ length bs → word bs 8 + word bs 12 ≤ length bs → word bs 12 < 4 → wrapped bs ≡ unsigned
-  unfolding wrapped if◌then◌else◌
+  unfolding wrapped when◌then◌else◌
   wrapped_small h i o = rw (le-ltb _ _ h, le-leb _ _ i, lt-leb _ _ o)
 
   pub wrapped_there : 20 ≤ length bs → word bs 8 + word bs 12 ≤ length bs → 4 ≤ word bs 12
       → wrapped bs ≡ opened (wrapped_header bs) (drop (word bs 8 + 4) (take (word bs 8 + word bs 12) bs))
-  unfolding wrapped if◌then◌else◌
+  unfolding wrapped when◌then◌else◌
   wrapped_there h i o = rw (le-ltb _ _ h, le-leb _ _ i, le-leb _ _ o)
 
 -- ---- back: a header h and a stream t that are there
@@ -69,11 +69,11 @@ never : {h : Signature} {t : List ℕ} → unsigned ≡ opened h t → ⊥
 never e = let z : ◌≡◌ {A = ℕ} 0 1 = cc in omega arith
 
 pub wrapped_opens : (bs : List ℕ) (h : Signature) (t : List ℕ) → wrapped bs ≡ opened h t → Wraps bs h t
-unfolding wrapped if◌then◌else◌
+unfolding wrapped when◌then◌else◌
 wrapped_opens bs h t e = go (ltb (length bs) 20) (leb (word bs 8 + word bs 12) (length bs)) (leb 4 (word bs 12)) refl refl e
   where
     go : (a b c : Bool) → leb (word bs 8 + word bs 12) (length bs) ≡ b → leb 4 (word bs 12) ≡ c
-        → (if a then unsigned else if b && c then opened (wrapped_header bs) (drop (word bs 8 + 4) (take (word bs 8 + word bs 12) bs)) else unsigned) ≡ opened h t
+        → (when a then unsigned else when b && c then opened (wrapped_header bs) (drop (word bs 8 + 4) (take (word bs 8 + word bs 12) bs)) else unsigned) ≡ opened h t
         → Wraps bs h t
     go true b c i j x = absurd (never x)
     go false true true i j x =
@@ -84,11 +84,11 @@ wrapped_opens bs h t e = go (ltb (length bs) 20) (leb (word bs 8 + word bs 12) (
     go false false c i j x = absurd (never x)
 
 pub signature_opens : (bs : List ℕ) (h : Signature) (t : List ℕ) → signature bs ≡ opened h t → Opens bs h t
-unfolding signature if◌then◌else◌
+unfolding signature when◌then◌else◌
 signature_opens bs h t e = go (ltb (length bs) 4) (eqb (word bs 0) wrapper_magic) refl refl e
   where
     go : (a b : Bool) → ltb (length bs) 4 ≡ a → eqb (word bs 0) wrapper_magic ≡ b
-        → (if a then unsigned else if b then wrapped bs else opened (plain_header bs) (drop 4 bs)) ≡ opened h t → Opens bs h t
+        → (when a then unsigned else when b then wrapped bs else opened (plain_header bs) (drop 4 bs)) ≡ opened h t → Opens bs h t
     go true b i j x = absurd (never x)
     go false true i j x =
         let w = wrapped_opens bs h t x in
@@ -123,9 +123,9 @@ pub rest_of : (a : ℕ) (bs : List ℕ) → take (length bs - a) (drop a bs) ≡
 rest_of a bs = part_of a (length bs) bs ∙ ap (drop a) (take-length bs)
 
 pub bytes_outside : (s : List ℕ) (at n : ℕ) → length s < at + n → bytes_of s at n ≡ []
-unfolding bytes_of if◌then◌else◌
+unfolding bytes_of when◌then◌else◌
 bytes_outside s at n h = rw (lt-leb _ _ h)
 
 pub bytes_inside : (s : List ℕ) (at n : ℕ) → at + n ≤ length s → bytes_of s at n ≡ take n (drop at s)
-unfolding bytes_of if◌then◌else◌
+unfolding bytes_of when◌then◌else◌
 bytes_inside s at n h = rw (le-leb _ _ h)

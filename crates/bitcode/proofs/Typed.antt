@@ -6,7 +6,7 @@ use Prim.Native.Nat.{ℕ, ◌+◌, ◌^◌, ◌≤◌, ◌<◌, min}
 use lib.ListN.{get_or, length}
 use borrow.Author.Tests.{lt-ltb, le-ltb, ltb-true}
 use Rattle.terms.specs.Refusals.{No, no}
-use Rattle.bits.specs.Reader.{got, if◌then◌else◌, give}
+use Rattle.bits.specs.Reader.{got, when◌then◌else◌, give}
 use Rattle.bits.specs.Told.{At, Off}
 use Rattle.bits.specs.declared.Cursor.{Cursor}
 use Rattle.bits.proofs.Steps.{on, then_off, off, ends, pass, fail, apart, passed, got_value}
@@ -14,11 +14,11 @@ use Rattle.bitcode.specs.Operands.{next, next_below}
 
 module _ (s : List ℕ) (e p : ℕ) where
   pub next_off : min e (length s) ≤ p → Off next s e p (no 14 0 0)
-  unfolding next if◌then◌else◌
+  unfolding next when◌then◌else◌
   next_off h = record { why = rw (le-ltb _ _ h) }
 
   pub next_there : p < min e (length s) → next s e p ≡ got (get_or s p 0) (p + 1)
-  unfolding next if◌then◌else◌
+  unfolding next when◌then◌else◌
   next_there h = rw (lt-ltb _ _ h)
 
 module _ {s : List ℕ} {e p : ℕ} (w : ℕ) where

@@ -1,6 +1,6 @@
 -- The header, the stream behind it, and a blob's part of it (01, "Header", "Walk"). Assumes nothing.
 use Rattle.std.specs.Prelude.{◌&&◌, List, [], ℕ, ◌+◌, ◌-◌, ◌*◌, get_or, length, take, drop, ltb, leb, eqb}
-use Rattle.bits.specs.Reader.{if◌then◌else◌}
+use Rattle.bits.specs.Reader.{when◌then◌else◌}
 use Rattle.bitcode.specs.declared.Signature.{Signature}
 use Rattle.bitcode.specs.declared.Parsed.{Parsed}
 use Rattle.bitcode.specs.declared.Parsed.TheVariants.{Signed, Refused}
@@ -24,8 +24,8 @@ unfoldable pub wrapped : List ℕ → Opened
 wrapped bs =
     let offset : ℕ = word bs 8 in
     let size : ℕ = word bs 12 in
-    if ltb (length bs) 20 then unsigned else
-    if leb (offset + size) (length bs) && leb 4 size then
+    when ltb (length bs) 20 then unsigned else
+    when leb (offset + size) (length bs) && leb 4 size then
     opened (record { magic = word bs 0; magic2 = word bs offset; version = word bs 4; offset = offset; size = size; cpu = word bs 16 })
     (drop (offset + 4) (take (offset + size) bs))
     else unsigned
@@ -33,8 +33,8 @@ wrapped bs =
 -- "Under 4 bytes: 1. First word is the magic. If not 0x0B17C0DE, the stream is the rest; offset 4, size its length, version, cpu type and magic2 zero"
 unfoldable pub signature : List ℕ → Opened
 signature bs =
-    if ltb (length bs) 4 then unsigned else
-    if eqb (word bs 0) wrapper_magic then wrapped bs else
+    when ltb (length bs) 4 then unsigned else
+    when eqb (word bs 0) wrapper_magic then wrapped bs else
     opened (record { magic = word bs 0; magic2 = 0; version = 0; offset = 4; size = length bs - 4; cpu = 0 }) (drop 4 bs)
 
 -- what the code's call answers: the numbers, or 1
@@ -49,7 +49,7 @@ stream (opened h s) = s
 
 -- n bytes of a stream from the byte `at` on: "a place and length not inside the stream show an empty part"
 unfoldable pub bytes_of : List ℕ → ℕ → ℕ → List ℕ
-bytes_of s at n = if leb (at + n) (length s) then take n (drop at s) else []
+bytes_of s at n = when leb (at + n) (length s) then take n (drop at s) else []
 
 -- "A blob is shown as that very part of the caller's input"
 unfoldable pub blob_of : List ℕ → ℕ → ℕ → List ℕ

@@ -1,7 +1,7 @@
 -- Typed operands (01, "Walk"): readers over a store of numbers. The place and the end are counted in numbers here, not in bits and bytes. Assumes nothing.
 use Rattle.std.specs.Prelude.{Bool, ℕ, ◌+◌, ◌^◌, min, get_or, length, ℤ, ltb, eqb}
 use Rattle.terms.specs.Refusals.{No, no, value_overflow, end_of_record}
-use Rattle.bits.specs.Reader.{Reader, got, refused, ◌>>=◌, ◌>>◌, give, require, if◌then◌else◌}
+use Rattle.bits.specs.Reader.{Reader, got, refused, ◌>>=◌, ◌>>◌, give, require, when◌then◌else◌}
 use Rattle.bits.specs.Bits.{signed_of}
 use Rattle.bits.specs.Told.{Told, told, refuses}
 use Rattle.bits.specs.declared.Cursor.{Cursor}
@@ -24,7 +24,7 @@ use Rattle.bitcode.specs.declared.NextRange.TheVariants as R
 
 -- the next operand: "none left, or a place outside the lent store: 14"
 unfoldable pub next : Reader No ℕ
-next = λ store end at. if ltb at (min end (length store)) then got (get_or store at 0) (at + 1) else refused end_of_record
+next = λ store end at. when ltb at (min end (length store)) then got (get_or store at 0) (at + 1) else refused end_of_record
 
 -- one of w bits: "too large .. 13"
 unfoldable pub next_below : ℕ → Reader No ℕ

@@ -1,7 +1,7 @@
 -- Scalar operands (01, "Abbreviations"): what each kind reads. Assumes nothing.
 use Rattle.std.specs.Prelude.{ℕ, ◌+◌, ◌-◌, ltb, eqb}
 use Rattle.terms.specs.Refusals.{No}
-use Rattle.bits.specs.Reader.{Reader, ◌>>=◌, give, if◌then◌else◌}
+use Rattle.bits.specs.Reader.{Reader, ◌>>=◌, give, when◌then◌else◌}
 use Rattle.bits.specs.Bits.{read, vbr}
 use Rattle.bitcode.specs.declared.ScalarOperand.{ScalarOperand}
 use Rattle.bitcode.specs.declared.ScalarOperand.TheVariants.{Literal, Fixed, Vbr, Char6}
@@ -9,10 +9,10 @@ use Rattle.bitcode.specs.declared.ScalarOperand.TheVariants.{Literal, Fixed, Vbr
 -- "Char6 0..25 is a..z, 26..51 A..Z, 52..61 0..9, 62 '.', 63 '_'; its value is the ASCII code"
 unfoldable pub ascii : ℕ → ℕ
 ascii v =
-    if ltb v 26 then v + 97 else
-    if ltb v 52 then v - 26 + 65 else
-    if ltb v 62 then v - 52 + 48 else
-    if eqb v 62 then 46 else 95
+    when ltb v 26 then v + 97 else
+    when ltb v 52 then v - 26 + 65 else
+    when ltb v 62 then v - 52 + 48 else
+    when eqb v 62 then 46 else 95
 
 -- a literal takes no bits; a fixed field and a VBR number have their width; a letter has six bits
 unfoldable pub value : ScalarOperand → Reader No ℕ

@@ -9,7 +9,7 @@ use lib.ListN.{length}
 use lib.Dec.{T, leb, ltb}
 use borrow.Author.Tests.{leb-true}
 use Rattle.terms.specs.Refusals.{No, no, Refusal, refusal, buffer_overflow, walk_number}
-use Rattle.bits.specs.Reader.{Answer, got, refused, Reader, onward, ◌>>=◌, give, stop, require, if◌then◌else◌, here, turns, at_place, placed}
+use Rattle.bits.specs.Reader.{Answer, got, refused, Reader, onward, ◌>>=◌, give, stop, require, when◌then◌else◌, here, turns, at_place, placed}
 use Rattle.bits.specs.Bits.{limit, in_range, field_at, reach, read, align, chunks, vbr}
 use Rattle.bits.proofs.Vbr.{Ahead}
 
@@ -63,8 +63,8 @@ module _ {R A : Type 0} {s : List ℕ} {e p : ℕ} {K : A → ℕ → Type 0} {Q
   unfolding stop Has
   stops r k = record { has = k }
 
-  pub branch : (b : Bool) {x y : Reader R A} → (b ≡ true → Answers x s e p K Q) → (b ≡ false → Answers y s e p K Q) → Answers (if b then x else y) s e p K Q
-  unfolding if◌then◌else◌
+  pub branch : (b : Bool) {x y : Reader R A} → (b ≡ true → Answers x s e p K Q) → (b ≡ false → Answers y s e p K Q) → Answers (when b then x else y) s e p K Q
+  unfolding when◌then◌else◌
   branch true i j = i refl
   branch false i j = j refl
 
@@ -101,8 +101,8 @@ places {A} {s} {e} {p} from {m} {K} x = record { has = go (m s e p) x.has }
 
 -- ---- bits
 bounded : {A : Type 0} (s : List ℕ) (e p t : ℕ) (b : Bool) (a : A) → leb t (limit s e) ≡ b → p ≤ t
-    → Has s e p (λ v q. (q ≡ t) × (q ≤ limit s e)) Known (if b then got a t else refused buffer_overflow)
-unfolding if◌then◌else◌ Has Known
+    → Has s e p (λ v q. (q ≡ t) × (q ≤ limit s e)) Known (when b then got a t else refused buffer_overflow)
+unfolding when◌then◌else◌ Has Known
 bounded s e p t true a i l = let m = leb-true t (limit s e) i in (l, λ h. m, (refl, m))
 bounded s e p t false a i l = tt
 

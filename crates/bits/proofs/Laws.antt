@@ -13,7 +13,7 @@ use mathlib.Core.Bool.{Bool, true, false, ◌&&◌}
 use lib.Dec.{leb}
 use Rattle.bits.specs.declared.Cursor.{Cursor}
 use Rattle.terms.specs.Refusals.{No, buffer_overflow, vbr_overflow, alignment}
-use Rattle.bits.specs.Reader.{got, refused, onward, ◌>>=◌, if◌then◌else◌, here}
+use Rattle.bits.specs.Reader.{got, refused, onward, ◌>>=◌, when◌then◌else◌, here}
 use Rattle.bits.specs.Bits.{bit, field, limit, in_range, reach, field_at, read, align, skip, part, peek, staying, next_bytes, shown}
 use Rattle.bits.specs.Told.{At, Off}
 use Rattle.bits.specs.Word.{word64}
@@ -202,7 +202,7 @@ pub between : (lo n hi : ℕ) → in_range lo hi n ≡ true → (lo ≤ n) × (n
 between lo n hi h = let w = and_true (leb lo n) (leb n hi) h in (leb-true _ _ w.0, leb-true _ _ w.1)
 
 -- an answer within a limit, back: the place that it comes to is within
-bounded : {A : Type 0} (t l : ℕ) (x : A) {v : A} {q : ℕ} → (if leb t l then got x t else refused buffer_overflow) ≡ got v q → (t ≤ l) × (v ≡ x) × (q ≡ t)
+bounded : {A : Type 0} (t l : ℕ) (x : A) {v : A} {q : ℕ} → (when leb t l then got x t else refused buffer_overflow) ≡ got v q → (t ≤ l) × (v ≡ x) × (q ≡ t)
 bounded t l x {v} {q} z =
     arms (λ a. a ≡ got v q) (leb t l) _ _ z (λ i h. (leb-true _ _ i, sym (got_value h), sym (got_place h))) (λ i h. absurd (never h))
 
@@ -217,11 +217,11 @@ module _ (s : List ℕ) (e p n : ℕ) where
   read_wide h = fail _ (above_range _ _ _ (omega arith) h)
 
   pub read_short : 1 ≤ n → n ≤ 64 → limit s e < p + n → Off (read n) s e p buffer_overflow
-  unfolding read field_at if◌then◌else◌
+  unfolding read field_at when◌then◌else◌
   read_short l h o = pass_off _ _ (within_range _ _ _ l h) record { why = rw (lt-leb (p + n) (limit s e) o) }
 
   pub read_value : {v : ℕ} → v ≡ field s p n → 1 ≤ n → n ≤ 64 → p + n ≤ limit s e → At (read n) s e p v record { at = p + n; end = e }
-  unfolding read field_at if◌then◌else◌
+  unfolding read field_at when◌then◌else◌
   read_value i l h o = pass _ _ (within_range _ _ _ l h) record { gives = rw (i, le-leb (p + n) (limit s e) o); ends = refl }
 
 -- and back: what a read that gives a value says of it
@@ -243,11 +243,11 @@ read_gives s e p n v q z =
 -- ---- moves within the limit
 module _ (s : List ℕ) (e p : ℕ) where
   pub reach_off : (to : ℕ → ℕ) → limit s e < to p → Off (reach to) s e p buffer_overflow
-  unfolding reach if◌then◌else◌
+  unfolding reach when◌then◌else◌
   reach_off to h = record { why = rw (lt-leb (to p) (limit s e) h) }
 
   pub reach_to : (to : ℕ → ℕ) → to p ≤ limit s e → At (reach to) s e p tt record { at = to p; end = e }
-  unfolding reach if◌then◌else◌
+  unfolding reach when◌then◌else◌
   reach_to to h = record { gives = rw (le-leb (to p) (limit s e) h); ends = refl }
 
   pub align_off : limit s e < (p + 31) / 32 * 32 → Off align s e p buffer_overflow

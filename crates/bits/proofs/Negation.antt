@@ -7,7 +7,7 @@ use lib.IntN.{ℤ, pos, negsuc, neg_ℤ, ◌-ℤ◌, +ℤ_idl}
 use mir.Syntax.{w64}
 use mir.Val.{SFits, to_z, of_z}
 use mir.ValLaws.{to_z_pos, to_z-of_z}
-use Rattle.bits.specs.Reader.{if◌then◌else◌}
+use Rattle.bits.specs.Reader.{when◌then◌else◌}
 use Rattle.bits.specs.Bits.{signed_of}
 
 -- the negation of a half fits a signed word
@@ -30,15 +30,15 @@ back h l = to_z-of_z w64 _ (half_fits h l) ∙ neg_half h l
 -- ---- the definition, by its cases
 module _ (v : ℕ) where
   pub signed_even : v % 2 ≡ 0 → signed_of v ≡ pos (v / 2)
-  unfolding signed_of if◌then◌else◌
+  unfolding signed_of when◌then◌else◌
   signed_even e = simp (eq-eqb _ _ e)
 
   pub signed_one : v ≡ 1 → signed_of v ≡ negsuc 9223372036854775807
-  unfolding signed_of if◌then◌else◌
+  unfolding signed_of when◌then◌else◌
   signed_one e = rw e
 
   pub signed_odd : (v % 2 ≡ 0 → ⊥) → (v ≡ 1 → ⊥) → signed_of v ≡ neg_ℤ (pos (v / 2))
-  unfolding signed_of if◌then◌else◌
+  unfolding signed_of when◌then◌else◌
   signed_odd o n =
       let h : (v - 1) / 2 ≡ v / 2 = omega arith in
       simp (ne_eqb _ _ o, ne_eqb _ _ n, h)

@@ -5,7 +5,7 @@ use mathlib.Core.List.{List}
 use mathlib.Core.Bool.{Bool, true, false}
 use native.Mathlib.Omega.{arith}
 use Rattle.bits.specs.declared.Cursor.{Cursor}
-use Rattle.bits.specs.Reader.{Answer, got, refused, Reader, onward, ◌>>=◌, require, if◌then◌else◌, here, give}
+use Rattle.bits.specs.Reader.{Answer, got, refused, Reader, onward, ◌>>=◌, require, when◌then◌else◌, here, give}
 use Rattle.bits.specs.Told.{At, Off, Told, told, refuses, Gives}
 
 -- ---- forward: the first part got a value at d, and the rest is told from d on
@@ -53,20 +53,20 @@ fail f i = record { why = rw i }
 
 -- a branch
 module _ {R A : Type 0} {s : List ℕ} {e p : ℕ} (x y : Reader R A) {b : Bool} where
-  pub yes_at : {a : A} {d : Cursor} → b ≡ true → At x s e p a d → At (if b then x else y) s e p a d
-  unfolding if◌then◌else◌
+  pub yes_at : {a : A} {d : Cursor} → b ≡ true → At x s e p a d → At (when b then x else y) s e p a d
+  unfolding when◌then◌else◌
   yes_at i j = rw i j
 
-  pub no_at : {a : A} {d : Cursor} → b ≡ false → At y s e p a d → At (if b then x else y) s e p a d
-  unfolding if◌then◌else◌
+  pub no_at : {a : A} {d : Cursor} → b ≡ false → At y s e p a d → At (when b then x else y) s e p a d
+  unfolding when◌then◌else◌
   no_at i j = rw i j
 
-  pub yes_off : {r : R} → b ≡ true → Off x s e p r → Off (if b then x else y) s e p r
-  unfolding if◌then◌else◌
+  pub yes_off : {r : R} → b ≡ true → Off x s e p r → Off (when b then x else y) s e p r
+  unfolding when◌then◌else◌
   yes_off i j = rw i j
 
-  pub no_off : {r : R} → b ≡ false → Off y s e p r → Off (if b then x else y) s e p r
-  unfolding if◌then◌else◌
+  pub no_off : {r : R} → b ≡ false → Off y s e p r → Off (when b then x else y) s e p r
+  unfolding when◌then◌else◌
   no_off i j = rw i j
 
 -- ---- back: what a `do` block that got a value tells of its parts
@@ -92,8 +92,8 @@ passed f r s e p {b = true} z = (refl, z)
 passed f r s e p {b = false} z = absurd (never z)
 
 -- the arm of a branch that was taken, for any fact P of the branch
-pub arms : {A X : Type 0} (P : A → Type 0) (b : Bool) (x y : A) → P (if b then x else y) → (b ≡ true → P x → X) → (b ≡ false → P y → X) → X
-unfolding if◌then◌else◌
+pub arms : {A X : Type 0} (P : A → Type 0) (b : Bool) (x y : A) → P (when b then x else y) → (b ≡ true → P x → X) → (b ≡ false → P y → X) → X
+unfolding when◌then◌else◌
 arms P true x y h f g = f refl h
 arms P false x y h f g = g refl h
 

@@ -10,7 +10,7 @@ use lib.Pow as P
 use borrow.Author.Tests.{lt-ltb, le-ltb}
 use Rattle.terms.specs.Refusals.{No, vbr_overflow}
 use Rattle.bits.specs.declared.Cursor.{Cursor}
-use Rattle.bits.specs.Reader.{got, onward, ◌>>=◌, give, require, if◌then◌else◌, turns}
+use Rattle.bits.specs.Reader.{got, onward, ◌>>=◌, give, require, when◌then◌else◌, turns}
 use Rattle.bits.specs.Bits.{limit, read, chunks, vbr}
 use Rattle.bits.specs.Told.{At, Off}
 use Rattle.bits.proofs.Laws.{Reads, read_gives, limit_in, below_range, above_range, within_range}
@@ -80,7 +80,7 @@ module _ {s : List ℕ} {w : ℕ} {c₀ c : Cursor} {shift sum : ℕ} (g : Going
 
     -- the last chunk
     pub going_last : {u : ℕ} → u ≡ 2 ^ (w - 1) → shift < 64 → v < u → At (vbr w) s c₀.end c₀.at (sum + v % u * 2 ^ shift % 2 ^ 64) d
-    unfolding chunks ◌>>=◌ onward require if◌then◌else◌ give
+    unfolding chunks ◌>>=◌ onward require when◌then◌else◌ give
     going_last i o l =
         record {
           gives =
@@ -90,7 +90,7 @@ module _ {s : List ℕ} {w : ℕ} {c₀ c : Cursor} {shift sum : ℕ} (g : Going
 
     -- another chunk follows
     pub going_more : {u : ℕ} → u ≡ 2 ^ (w - 1) → shift < 64 → u ≤ v → Going s w c₀ d (shift + (w - 1)) (sum + v % u * 2 ^ shift % 2 ^ 64)
-    unfolding chunks ◌>>=◌ onward require if◌then◌else◌ give
+    unfolding chunks ◌>>=◌ onward require when◌then◌else◌ give
     going_more {u} i o l = rw i (go g.fuel g.enough g.rest)
       where
         reads : Reads s c.end c.at w v d.at

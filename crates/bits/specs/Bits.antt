@@ -2,7 +2,7 @@
 use Rattle.std.specs.Prelude.{Bool, ◌&&◌, List, [], ℕ, zero, suc, ◌+◌, ◌-◌, ◌*◌, ◌/◌, ◌%◌, ◌^◌, min, get_or, length, take, drop, ℤ, pos, negsuc, neg_ℤ, ltb, leb, eqb}
 use Rattle.terms.specs.Limits.{max_input}
 use Rattle.terms.specs.Refusals.{No, buffer_overflow, vbr_overflow, alignment}
-use Rattle.bits.specs.Reader.{Answer, got, refused, Reader, ◌>>=◌, ◌>>◌, give, stop, require, if◌then◌else◌, here, turns}
+use Rattle.bits.specs.Reader.{Answer, got, refused, Reader, ◌>>=◌, ◌>>◌, give, stop, require, when◌then◌else◌, here, turns}
 
 -- "Bit i of the stream is bit i mod 8 of byte i/8"
 unfoldable pub bit : List ℕ → ℕ → ℕ
@@ -23,10 +23,10 @@ in_range lo hi n = leb lo n && leb n hi
 
 -- ---- fields and moves that end within the length; else 2
 unfoldable pub field_at : ℕ → Reader No ℕ
-field_at n = λ s e p. if leb (p + n) (limit s e) then got (field s p n) (p + n) else refused buffer_overflow
+field_at n = λ s e p. when leb (p + n) (limit s e) then got (field s p n) (p + n) else refused buffer_overflow
 
 unfoldable pub reach : (ℕ → ℕ) → Reader No (Unit {0})
-reach to = λ s e p. if leb (to p) (limit s e) then got tt (to p) else refused buffer_overflow
+reach to = λ s e p. when leb (to p) (limit s e) then got tt (to p) else refused buffer_overflow
 
 -- "Read of n bits: n outside 1..64 gives 3. Else it succeeds exactly if place + n ≤ 8 × length; else 2"
 unfoldable pub read : ℕ → Reader No ℕ
@@ -46,7 +46,7 @@ chunks (suc k) w shift acc = do
   c ← read w
   require (ltb shift 64) vbr_overflow
   let v = (acc + c % 2 ^ (w - 1) * 2 ^ shift) % 2 ^ 64
-  if ltb c (2 ^ (w - 1)) then give v else chunks k w (shift + (w - 1)) v
+  when ltb c (2 ^ (w - 1)) then give v else chunks k w (shift + (w - 1)) v
 
 -- "VBR of width 1..32 .. Other widths: 3"
 unfoldable pub vbr : ℕ → Reader No ℕ
@@ -97,5 +97,5 @@ ends_at s e p = leb (limit s e) p
 -- "Signed: even v is v/2; odd v above 1 is −(v−1)/2; v = 1 is −9223372036854775808"
 unfoldable pub signed_of : ℕ → ℤ
 signed_of v =
-    if eqb (v % 2) 0 then pos (v / 2) else
-    if eqb v 1 then negsuc 9223372036854775807 else neg_ℤ (pos ((v - 1) / 2))
+    when eqb (v % 2) 0 then pos (v / 2) else
+    when eqb v 1 then negsuc 9223372036854775807 else neg_ℤ (pos ((v - 1) / 2))

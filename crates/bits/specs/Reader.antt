@@ -35,10 +35,11 @@ unfoldable pub require : {R : Type 0} → Bool → R → Reader R (Unit {0})
 require true r = λ s e p. got tt p
 require false r = λ s e p. refused r
 
-infix 5 if◌then◌else◌
-unfoldable pub if◌then◌else◌ : {A : Type 0} → Bool → A → A → A
-if◌then◌else◌ true a b = a
-if◌then◌else◌ false a b = b
+-- the library's `if`, but closed: so a law of a choice finds its two arms in the goal, and no proof writes them out
+infix 5 when◌then◌else◌
+unfoldable pub when◌then◌else◌ : {A : Type 0} → Bool → A → A → A
+when◌then◌else◌ true a b = a
+when◌then◌else◌ false a b = b
 
 -- the place where the reading stands
 unfoldable pub here : {R : Type 0} → Reader R ℕ

@@ -8,7 +8,7 @@ use lib.Dec.{ltb}
 use lib.ListN.{length, take, drop, replicate}
 use Rattle.terms.specs.Limits.{event_size}
 use Rattle.terms.specs.Refusals.{refusal}
-use Rattle.bits.specs.Reader.{if◌then◌else◌}
+use Rattle.bits.specs.Reader.{when◌then◌else◌}
 use Rattle.walk.specs.declared.Walked.{Walked}
 use Rattle.walk.specs.Piece.{Event, enter, skip, leave, record_event, all_events, all_store}
 use Rattle.walk.specs.Walk.{Outcome, denied, accepted, walk, entry, entries, filled, result, walked}
@@ -22,7 +22,7 @@ use Rattle.dump.specs.Dumped.{too_long, shown, dumped}
 
 -- ---- the store's first entries tell of no more than the events do
 first_entry : (x : Event) (r : List ℕ) → entry_weight (take event_size (entry x ++ r)) ≡ weight x
-unfolding entry entry_weight weight if◌then◌else◌
+unfolding entry entry_weight weight when◌then◌else◌
 first_entry (enter b w at n) r = refl
 first_entry (leave b) r = refl
 first_entry (record_event b code first many kind at n) r = refl
@@ -70,10 +70,10 @@ unfolding walked
 walked_most input skips n m = shown_most n m (walk input skips n m) (walk_fits input skips n m)
 
 pub dump_fits : (input : List ℕ) → length (dumped input) ≤ 524288
-unfolding dumped if◌then◌else◌
+unfolding dumped when◌then◌else◌
 dump_fits input = by_test (ltb 65536 (length input)) (more (walked_most input [] 8192 8192) (omega arith))
   where
-    by_test : (t : Bool) {text : List ℕ} → Most 524288 text → length (if t then status_line too_long else text) ≤ 524288
+    by_test : (t : Bool) {text : List ℕ} → Most 524288 text → length (when t then status_line too_long else text) ≤ 524288
     by_test true m = omega (arith, (status_most too_long).most)
     by_test false m = m.most
 

@@ -1,6 +1,6 @@
 -- What the dump says of an input (01, "Bench samples"). Assumes nothing.
 use Rattle.std.specs.Prelude.{List, [], ℕ, length, ltb}
-use Rattle.bits.specs.Reader.{if◌then◌else◌}
+use Rattle.bits.specs.Reader.{when◌then◌else◌}
 use Rattle.walk.specs.declared.Walked.{Walked}
 use Rattle.walk.specs.Walk.{Result, walked}
 use Rattle.walk.specs.Promises.{answer}
@@ -24,4 +24,4 @@ shown r = dump (answer r) r.event_store r.operand_store
 
 -- "The dump reads at most 65,536 bytes of standard input; more is 15. It lends two stores of 8,192 numbers and an empty skip list"
 unfoldable pub dumped : List ℕ → List ℕ
-dumped input = if ltb 65536 (length input) then status_line too_long else shown (walked input [] 8192 8192)
+dumped input = when ltb 65536 (length input) then status_line too_long else shown (walked input [] 8192 8192)

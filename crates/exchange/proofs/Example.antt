@@ -3,7 +3,7 @@ use mathlib.Core.Path.{◌≡◌, refl}
 use mathlib.Core.List.{List, [], ◌∷◌}
 use Prim.Native.Nat.{ℕ}
 use native.Mathlib.Omega.{arith}
-use Rattle.bits.specs.Reader.{onward, ◌>>=◌, give, stop, require, if◌then◌else◌, here, turns, at_place, placed}
+use Rattle.bits.specs.Reader.{onward, ◌>>=◌, give, stop, require, when◌then◌else◌, here, turns, at_place, placed}
 use Rattle.bits.specs.Bits.{bit, field, limit, field_at, reach, read, align, chunks, vbr, ends_at}
 use Rattle.bitcode.specs.declared.ScalarOperand.TheVariants.{Literal, Fixed, Vbr, Char6}
 use Rattle.bitcode.specs.declared.Signature.{Signature}
@@ -132,7 +132,7 @@ evaluated :
     × (events_of (walk (exchanged deep deep_first deep_second) deep_skips 72 4) ≡ deep_swapped)
 unfolding casings casings_header casings_first casings_second casings_spot casings_swapped casings_seen
     deep deep_skips deep_header deep_first deep_second deep_spot deep_swapped
-    events_of seen plug exchanged base_of exchange from_of to_of head_end onward ◌>>=◌ give stop require if◌then◌else◌ here turns at_place placed
+    events_of seen plug exchanged base_of exchange from_of to_of head_end onward ◌>>=◌ give stop require when◌then◌else◌ here turns at_place placed
     bit field limit field_at reach read align chunks vbr ends_at ascii value word wrapped signature stream bytes_at payload shown all_shown
     width kind operand element also rest_of operands define number_of look_up
     shared_for every or_else readable chosen info_definition set_bid letters block_name record_name info_record info_numbered info_item info_on info
@@ -156,7 +156,7 @@ casings_hold = demand_3 casings [] 88 10 casings_header casings_spot casings_fir
 })
 
 deep_holds : Exchanged deep deep_skips 72 4 deep_header deep_spot deep_first deep_second
-unfolding IsBlock Quiet Quiets deep deep_first deep_second from_of base_of word if◌then◌else◌
+unfolding IsBlock Quiet Quiets deep deep_first deep_second from_of base_of word when◌then◌else◌
 deep_holds = demand_3 deep deep_skips 72 4 deep_header deep_spot deep_first deep_second (record {
   meets = evaluated.3;
   first_block = tt;

@@ -8,7 +8,7 @@ use lib.ListN.{length, take, drop}
 use lib.Seq.{take_all}
 use lib.Dec.{eqb}
 use borrow.Author.Tests.{eqb-true, eqb-false, eq-eqb, ne_eqb}
-use Rattle.bits.specs.Reader.{if◌then◌else◌}
+use Rattle.bits.specs.Reader.{when◌then◌else◌}
 use Rattle.bitcode.specs.declared.Signature.{Signature}
 use Rattle.bitcode.specs.Header.{word, wrapper_magic, Opened, unsigned, opened, wrapped, signature}
 use Rattle.bitcode.proofs.Headers.{plain_header, wrapped_header, signature_wrapped, signature_plain, wrapped_short, wrapped_outside, wrapped_small, wrapped_there, signature_opens}
@@ -17,14 +17,14 @@ use Rattle.exchange.proofs.Exchange.{either}
 
 -- ---- where the stream lies: it begins at `base_of`; the byte behind it
 unfoldable pub end_of : List ℕ → ℕ
-end_of bs = if eqb (word bs 0) wrapper_magic then word bs 8 + word bs 12 else length bs
+end_of bs = when eqb (word bs 0) wrapper_magic then word bs 8 + word bs 12 else length bs
 
 pub plain_lies : (bs : List ℕ) → (word bs 0 ≡ wrapper_magic → ⊥) → (base_of bs ≡ 4) × (end_of bs ≡ length bs)
-unfolding base_of end_of if◌then◌else◌
+unfolding base_of end_of when◌then◌else◌
 plain_lies bs e = (rw (ne_eqb _ _ e), rw (ne_eqb _ _ e))
 
 pub wrapped_lies : (bs : List ℕ) → word bs 0 ≡ wrapper_magic → (base_of bs ≡ word bs 8 + 4) × (end_of bs ≡ word bs 8 + word bs 12)
-unfolding base_of end_of if◌then◌else◌
+unfolding base_of end_of when◌then◌else◌
 wrapped_lies bs e = (rw (eq-eqb _ _ e), rw (eq-eqb _ _ e))
 
 -- ---- the two kinds of header

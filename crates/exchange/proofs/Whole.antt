@@ -9,7 +9,7 @@ use lib.ListN.{get_or, length}
 use lib.Seq.{length-slice}
 use lib.Dec.{ltb, eqb}
 use Rattle.terms.specs.Limits.{max_input, max_open}
-use Rattle.bits.specs.Reader.{if◌then◌else◌, got, turns}
+use Rattle.bits.specs.Reader.{when◌then◌else◌, got, turns}
 use Rattle.bits.specs.Bits.{bit}
 use Rattle.bits.proofs.Laws.{limit_in}
 use Rattle.bitcode.specs.declared.Signature.{Signature}
@@ -74,8 +74,8 @@ traded s i j k i32 j32 k32 ij jk kl =
     }
 
 -- ---- the header stays: it stands before the blocks
-least : (c : Bool) (n : ℕ) → 4 ≤ (if c then n + 4 else 4)
-unfolding if◌then◌else◌
+least : (c : Bool) (n : ℕ) → 4 ≤ (when c then n + 4 else 4)
+unfolding when◌then◌else◌
 least true n = omega arith
 least false n = omega arith
 

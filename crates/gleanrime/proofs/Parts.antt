@@ -9,7 +9,7 @@ use lib.ListN.{length, take, drop, length-drop}
 use lib.Seq.{length-take-le, take-take, drop-drop}
 use lib.Dec.{leb, eqb}
 use borrow.Author.Tests.{le-leb, lt-leb, leb-true, leb-false, eq-eqb, ne_eqb, eqb-true, eqb-false}
-use Rattle.bits.specs.Reader.{if◌then◌else◌}
+use Rattle.bits.specs.Reader.{when◌then◌else◌}
 use Rattle.bitcode.specs.declared.Signature.{Signature}
 use Rattle.bitcode.specs.declared.Parsed.TheVariants.{Signed, Refused}
 use Rattle.bitcode.specs.Header.{Opened, unsigned, opened, wrapper_magic, signature, parsed, stream, bytes_of, blob_of}
@@ -35,10 +35,10 @@ part_lies bs t a place n l h =
 
 -- ---- the stream
 pub stream_lies : (bs : List ℕ) → Lies bs (stream (signature bs)) (stream_from (signature bs))
-unfolding stream stream_from if◌then◌else◌
+unfolding stream stream_from when◌then◌else◌
 stream_lies bs = go (signature bs) refl
   where
-    by : (h : Signature) (t : List ℕ) → Opens bs h t → (b : Bool) → eqb h.magic wrapper_magic ≡ b → Lies bs t (if b then h.offset + 4 else 4)
+    by : (h : Signature) (t : List ℕ) → Opens bs h t → (b : Bool) → eqb h.magic wrapper_magic ≡ b → Lies bs t (when b then h.offset + 4 else 4)
     by h t o true i =
         let w = o.wraps (eqb-true _ _ i) in
         lies_part bs t (h.offset + 4) (h.offset + h.size - (h.offset + 4)) (omega (arith, w.inside, w.holds))
@@ -53,11 +53,11 @@ stream_lies bs = go (signature bs) refl
 -- ---- a blob, by the test
 module _ (bs : List ℕ) (place n : ℕ) where
   pub blob_outside : length (stream (signature bs)) < place + n → ReturnsBlob bs place n 0 0
-  unfolding blob_size blob_from blob_of if◌then◌else◌
+  unfolding blob_size blob_from blob_of when◌then◌else◌
   blob_outside h = (rw (bytes_outside _ place n h), rw (lt-leb _ _ h))
 
   pub blob_inside : (a : ℕ) → a ≡ stream_from (signature bs) → place + n ≤ length (stream (signature bs)) → ReturnsBlob bs place n n (a + place)
-  unfolding blob_size blob_from blob_of if◌then◌else◌
+  unfolding blob_size blob_from blob_of when◌then◌else◌
   blob_inside a e h =
       let l = length-take-le n (drop place (stream (signature bs))) (rw length-drop (omega arith)) in
       (rw (bytes_inside _ place n h) (sym l), rw (le-leb _ _ h, e))
@@ -117,18 +117,18 @@ module _ (bs : List ℕ) where
       go (opened h s) i = absurd (let z : ◌≡◌ {A = ℕ} 0 1 = cc in omega arith)
 
   module _ {h : Signature} (e : parsed (signature bs) ≡ Signed h) where
-    start_by : stream_from (signature bs) ≡ (if eqb h.magic wrapper_magic then h.offset + 4 else 4)
+    start_by : stream_from (signature bs) ≡ (when eqb h.magic wrapper_magic then h.offset + 4 else 4)
     unfolding parsed stream_from
     start_by = go (signature bs) e
       where
-        go : (o : Opened) → parsed o ≡ Signed h → stream_from o ≡ (if eqb h.magic wrapper_magic then h.offset + 4 else 4)
+        go : (o : Opened) → parsed o ≡ Signed h → stream_from o ≡ (when eqb h.magic wrapper_magic then h.offset + 4 else 4)
         go unsigned i = absurd (let z : ◌≡◌ {A = ℕ} 0 1 = cc in omega arith)
         go (opened g s) i = let k : g ≡ h = cc in rw k
 
     pub start_wrapped : h.magic ≡ wrapper_magic → h.offset + 4 ≡ stream_from (signature bs)
-    unfolding if◌then◌else◌
+    unfolding when◌then◌else◌
     start_wrapped i = rw (start_by, eq-eqb _ _ i)
 
     pub start_plain : (h.magic ≡ wrapper_magic → ⊥) → 4 ≡ stream_from (signature bs)
-    unfolding if◌then◌else◌
+    unfolding when◌then◌else◌
     start_plain i = rw (start_by, ne_eqb _ _ i)

@@ -1,6 +1,6 @@
 -- What the exported calls for the header and for a blob's place return (01, "Header", "Walk"). Assumes nothing.
 use Rattle.std.specs.Prelude.{◌≡◌, List, [], ◌∷◌, ℕ, ◌+◌, length, leb, eqb}
-use Rattle.bits.specs.Reader.{if◌then◌else◌}
+use Rattle.bits.specs.Reader.{when◌then◌else◌}
 use Rattle.bitcode.specs.declared.Signature.{Signature}
 use Rattle.bitcode.specs.Header.{Opened, unsigned, opened, wrapper_magic, signature, stream, blob_of}
 use Rattle.gleanrime.specs.Told.{over}
@@ -29,7 +29,7 @@ ReturnsHeader bs old r ts = (r ≡ header_status (signature bs)) × (ts ≡ over
 -- first word, the stream their rest", of the bytes from the offset on
 unfoldable pub stream_from : Opened → ℕ
 stream_from unsigned = 0
-stream_from (opened h s) = if eqb h.magic wrapper_magic then h.offset + 4 else 4
+stream_from (opened h s) = when eqb h.magic wrapper_magic then h.offset + 4 else 4
 
 -- how many bytes a blob has: "a place and length not inside the stream show an empty part"
 unfoldable pub blob_size : List ℕ → ℕ → ℕ → ℕ
@@ -37,7 +37,7 @@ blob_size bs place n = length (blob_of bs place n)
 
 -- the byte of the input at which it begins, so that it is "that very part of the caller's input"; 0 where it is not inside the stream
 unfoldable pub blob_from : List ℕ → ℕ → ℕ → ℕ
-blob_from bs place n = if leb (place + n) (length (stream (signature bs))) then stream_from (signature bs) + place else 0
+blob_from bs place n = when leb (place + n) (length (stream (signature bs))) then stream_from (signature bs) + place else 0
 
 -- what the contract of `gleanrime_blob` says of the number r that it hands back and of the lent number f
 abbrev pub ReturnsBlob : List ℕ → ℕ → ℕ → ℕ → ℕ → Type 0

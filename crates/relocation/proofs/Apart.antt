@@ -8,7 +8,7 @@ use native.Mathlib.Omega.{arith}
 use lib.ListN.{length}
 use lib.Dec.{ltb, eqb}
 use Rattle.terms.specs.Refusals.{Refusal}
-use Rattle.bits.specs.Reader.{Reader, Answer, got, refused, onward, ◌>>=◌, give, stop, require, if◌then◌else◌, turns}
+use Rattle.bits.specs.Reader.{Reader, Answer, got, refused, onward, ◌>>=◌, give, stop, require, when◌then◌else◌, turns}
 use Rattle.bits.proofs.Steps.{never, apart, passed, arms, got_value, so}
 use Rattle.abbrev.specs.BlockInfo.{Shared}
 use Rattle.walk.specs.Piece.{Head, head, Piece, the_record, definition, blockinfo, skipped, block, Pieces, ◌then◌, State, after, entered}
@@ -105,7 +105,7 @@ module _ (sub : Sub) (skips : Pass) (c : Context) (st : State) (s : List ℕ) (e
   pub body_make : (r q from b w at n : ℕ) (inner : Pieces) → eqb b 0 ≡ false → skips from b ≡ false
       → sub from (head b w at n) st s e r ≡ got inner q
       → body_of sub skips from st (head b w at n) s e r ≡ got (block from (head b w at n) inner) q
-  unfolding body_of if◌then◌else◌ give
+  unfolding body_of when◌then◌else◌ give
   body_make r q from b w at n inner f g h =
       rw (f, g) (so (sub from (head b w at n) st) (λ xs. give (block from (head b w at n) xs)) s e r h)
 

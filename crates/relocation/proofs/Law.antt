@@ -9,7 +9,7 @@ use lib.ListN.{length}
 use lib.Dec.{ltb, leb}
 use borrow.Author.Tests.{leb-true, leb-false, ltb-true, lt-ltb}
 use Rattle.terms.specs.Refusals.{No, no}
-use Rattle.bits.specs.Reader.{Reader, Answer, got, refused, onward, require, if◌then◌else◌, here, turns, at_place}
+use Rattle.bits.specs.Reader.{Reader, Answer, got, refused, onward, require, when◌then◌else◌, here, turns, at_place}
 use Rattle.bits.specs.Bits.{bit, limit}
 use Rattle.walk.specs.Item.{Pass}
 use Rattle.relocation.proofs.Shift.{mv}
@@ -219,8 +219,8 @@ module _ {s s' : List ℕ} {lo hi up down : ℕ} {win : Window s s' lo hi up dow
   pub bounded : {A : Type 0} {e e' p : ℕ} → Ends win e e' → (q q' : ℕ) (a a' : A) (r : No) → lo ≤ p → p ≤ q → q' ≡ mv up down q → (q ≤ hi → a' ≡ a)
       → (b b' : Bool) → leb q (limit s e) ≡ b → leb q' (limit s' e') ≡ b'
       → Moved win e (Unit {0}) (λ _ r. (r ≡ q) × (q ≤ limit s e)) Free same p
-      (if b then got a q else refused r) (if b' then got a' q' else refused r)
-  unfolding Moves if◌then◌else◌
+      (when b then got a q else refused r) (when b' then got a' q' else refused r)
+  unfolding Moves when◌then◌else◌
   bounded {e} t q q' a a' r h g m w true true z z' =
       let l : q ≤ limit s e = leb-true q (limit s e) z in
       record { moves = record { rises = g; tells = (refl, l); asks = λ v. v; runs = λ c v. ap₂ got (w c) m; stays = λ c. l } }
@@ -233,8 +233,8 @@ module _ {s s' : List ℕ} {lo hi up down : ℕ} {win : Window s s' lo hi up dow
   pub branch : {R A B : Type 0} {P : Type 0} {K : A → ℕ → Type 0} {F : A → Type 0} {f : A → B} {e e' p : ℕ} → Ends win e e'
       → (b : Bool) (m n : Reader R A) (m' n' : Reader R B)
       → Runs win e e' p P K F f m m' → Runs win e e' p P K F f n n'
-      → Runs win e e' p P K F f (if b then m else n) (if b then m' else n')
-  unfolding if◌then◌else◌
+      → Runs win e e' p P K F f (when b then m else n) (when b then m' else n')
+  unfolding when◌then◌else◌
   branch t true m n m' n' x y = x
   branch t false m n m' n' x y = y
 
@@ -243,8 +243,8 @@ module _ {s s' : List ℕ} {lo hi up down : ℕ} {win : Window s s' lo hi up dow
       → (b : Bool) (m n : Reader R A) (m' n' : Reader R B)
       → (b ≡ true → Runs win e e' p P K F f m m')
       → (b ≡ false → Runs win e e' p P K F f n n')
-      → Runs win e e' p P K F f (if b then m else n) (if b then m' else n')
-  unfolding if◌then◌else◌
+      → Runs win e e' p P K F f (when b then m else n) (when b then m' else n')
+  unfolding when◌then◌else◌
   branch_on t true m n m' n' x y = x refl
   branch_on t false m n m' n' x y = y refl
 
@@ -262,8 +262,8 @@ module _ {s s' : List ℕ} {lo hi up down : ℕ} {win : Window s s' lo hi up dow
   pub branch_by : {R A B : Type 0} {P : Type 0} {K : A → ℕ → Type 0} {F : A → Type 0} {f : A → B} {e e' p : ℕ} → Ends win e e'
       → (b b' : Bool) → (p ≤ hi → b' ≡ b) → (m n : Reader R A) (m' n' : Reader R B)
       → Runs win e e' p P K F f m m' → Runs win e e' p P K F f n n'
-      → Runs win e e' p P K F f (if b then m else n) (if b' then m' else n')
-  unfolding if◌then◌else◌
+      → Runs win e e' p P K F f (when b then m else n) (when b' then m' else n')
+  unfolding when◌then◌else◌
   branch_by t true true h m n m' n' x y = x
   branch_by t true false h m n m' n' x y = past_hi (λ v. false≢true (h v)) x
   branch_by t false true h m n m' n' x y = past_hi (λ v. false≢true (sym (h v))) y

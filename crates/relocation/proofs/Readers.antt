@@ -8,7 +8,7 @@ use Prim.Native.Nat.{ℕ, zero, suc, ◌+◌, ◌-◌, ◌*◌, ◌/◌, ◌%◌
 use native.Mathlib.Omega.{arith}
 use lib.ListN.{length, length-append}
 use Rattle.terms.specs.Refusals.{No, no, Refusal, buffer_overflow}
-use Rattle.bits.specs.Reader.{Reader, Answer, got, refused, ◌>>=◌, give, stop, if◌then◌else◌, placed}
+use Rattle.bits.specs.Reader.{Reader, Answer, got, refused, ◌>>=◌, give, stop, when◌then◌else◌, placed}
 use Rattle.bits.specs.Bits.{field, limit, field_at, reach, read, align, chunks, vbr}
 use Rattle.bits.proofs.Laws.{between}
 use Rattle.bitcode.specs.declared.ScalarOperand.{ScalarOperand}
@@ -39,8 +39,8 @@ module _ {s s' : List ℕ} {lo hi up down : ℕ} (win : Window s s' lo hi up dow
       ap₂ (λ x y. x ∷ y) (field_agrees 8 p h (omega arith))
       (octets_agree n (p + 8) (omega arith) c ∙ ap (λ x. octets s' x n) (omega arith))
 
-bytes_as : (b : Bool) (s : List ℕ) (p n : ℕ) → bytes_if b s p n ≡ (if b then got (octets s p n) (p + 8 * n) else refused buffer_overflow)
-unfolding bytes_if if◌then◌else◌
+bytes_as : (b : Bool) (s : List ℕ) (p n : ℕ) → bytes_if b s p n ≡ (when b then got (octets s p n) (p + 8 * n) else refused buffer_overflow)
+unfolding bytes_if when◌then◌else◌
 bytes_as true s p n = refl
 bytes_as false s p n = refl
 
@@ -217,8 +217,8 @@ module _ {s s' : List ℕ} {lo hi up down : ℕ} {win : Window s s' lo hi up dow
 
   -- ---- BLOCKINFO
   -- a reader whose refusals are hidden: a refusal of the first run says nothing of the second
-  refuses : {A : Type 0} {e p : ℕ} {x' : Answer No A} (b : Bool) (r r' : No) → Easy win e same p (if b then refused r else refused r') x'
-  unfolding if◌then◌else◌
+  refuses : {A : Type 0} {e p : ℕ} {x' : Answer No A} (b : Bool) (r r' : No) → Easy win e same p (when b then refused r else refused r') x'
+  unfolding when◌then◌else◌
   refuses true r r' = stops _
   refuses false r r' = stops _
 

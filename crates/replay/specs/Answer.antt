@@ -1,6 +1,6 @@
 -- The walk's answer in the notation of the list of answers (src/main.rt), whose lines stand here beside their definitions. Assumes nothing.
 use Rattle.std.specs.Prelude.{Bool, true, List, [], ◌∷◌, ◌++◌, ◌≡◌, ℕ, zero, suc, ◌<◌, get_or, take, drop, length, eqb}
-use Rattle.bits.specs.Reader.{if◌then◌else◌}
+use Rattle.bits.specs.Reader.{when◌then◌else◌}
 use Rattle.bitcode.specs.declared.Signature.{Signature}
 use Rattle.bitcode.specs.Header.{blob_of}
 use Rattle.walk.specs.declared.Walked.{Walked}
@@ -28,9 +28,9 @@ behind_commas (v ∷ vs) = named "," v ++ behind_commas vs
 -- b and two hex digits a byte for a blob"
 unfoldable pub payload : ℕ → ℕ → ℕ → List ℕ → List ℕ → List ℕ
 payload k place count ops input =
-    if eqb k 1 then codes "a" ++ items 0 (take count (drop place ops)) else
-    if eqb k 2 then codes "c" ++ items 0 (take count (drop place ops)) else
-    if eqb k 3 then codes "b" ++ pairs (blob_of input place count) else []
+    when eqb k 1 then codes "a" ++ items 0 (take count (drop place ops)) else
+    when eqb k 2 then codes "c" ++ items 0 (take count (drop place ops)) else
+    when eqb k 3 then codes "b" ++ pairs (blob_of input place count) else []
 
 -- "=BLOCK,CODE, its operands, its payload"
 unfoldable pub record_text : List ℕ → List ℕ → List ℕ → List ℕ
@@ -40,10 +40,10 @@ record_text e ops input =
 -- "+BLOCK/WIDTH", "-BLOCK", a record, "~BLOCK"
 unfoldable pub event_text : ℕ → List ℕ → List ℕ → List ℕ → List ℕ
 event_text k e ops input =
-    if eqb k 1 then named " +" (get_or e 1 0) ++ named "/" (get_or e 2 0) else
-    if eqb k 2 then named " -" (get_or e 1 0) else
-    if eqb k 3 then record_text e ops input else
-    if eqb k 4 then named " ~" (get_or e 1 0) else []
+    when eqb k 1 then named " +" (get_or e 1 0) ++ named "/" (get_or e 2 0) else
+    when eqb k 2 then named " -" (get_or e 1 0) else
+    when eqb k 3 then record_text e ops input else
+    when eqb k 4 then named " ~" (get_or e 1 0) else []
 
 -- the first n events
 unfoldable pub event_texts : ℕ → List ℕ → List ℕ → List ℕ → List ℕ
@@ -53,7 +53,7 @@ event_texts (suc n) events ops input = event_texts n events ops input ++ event_t
 -- ---- the whole: of what a walk tells, its two stores and the input
 unfoldable pub answer_text : Walked → List ℕ → List ℕ → List ℕ → List ℕ
 answer_text w events ops input =
-    if eqb w.status 0 then header w.header ++ event_texts (shown w.events (length events)) events ops input else refused w
+    when eqb w.status 0 then header w.header ++ event_texts (shown w.events (length events)) events ops input else refused w
 
 unfoldable pub text_of : List ℕ → Result → List ℕ
 text_of input r = answer_text (answer r) r.event_store r.operand_store input

@@ -10,7 +10,7 @@ use lib.ListN.{length, get_or, take, drop, length-append, length-take}
 use lib.Seq.{drop-drop}
 use Rattle.io.specs.Digits.{last_digits, hex_digit_ascii}
 use Rattle.terms.specs.Limits.{event_size}
-use Rattle.bits.specs.Reader.{if◌then◌else◌}
+use Rattle.bits.specs.Reader.{when◌then◌else◌}
 use Rattle.bitcode.specs.declared.Signature.{Signature}
 use Rattle.walk.specs.declared.Walked.{Walked}
 use Rattle.walk.proofs.Weights.{elements}
@@ -106,11 +106,11 @@ front_most w = both (both (signature_most w.header) (named_most "\nevents=" w.ev
 
 -- ---- an event
 kind_most : (k : ℕ) → Most 21 (kind k)
-unfolding kind codes if◌then◌else◌
+unfolding kind codes when◌then◌else◌
 kind_most k = by_tests (eqb k 1) (eqb k 2) (eqb k 3) (eqb k 4)
   where
     by_tests : (a b c d : Bool)
-        → Most 21 (if a then codes "enter" else if b then codes "leave" else if c then codes "record" else if d then codes "skip" else decimal k)
+        → Most 21 (when a then codes "enter" else when b then codes "leave" else when c then codes "record" else when d then codes "skip" else decimal k)
     by_tests true b c d = more (codes_most "enter") (omega arith)
     by_tests false true c d = more (codes_most "leave") (omega arith)
     by_tests false false true d = more (codes_most "record") (omega arith)
@@ -126,11 +126,11 @@ unfolding body codes
 body_most e = both (both (named_most " width=" (get_or e 2 0)) (named_most " start=" (get_or e 3 0))) (named_most " length=" (get_or e 4 0))
 
 payload_most : (k place count : ℕ) (ops : List ℕ) → Most (48 + 22 * elements k count) (payload k place count ops)
-unfolding payload elements codes if◌then◌else◌
+unfolding payload elements codes when◌then◌else◌
 payload_most k place count ops = by_tests (eqb k 0) (eqb k 1) (eqb k 2) (eqb k 3)
   where
-    by_tests : (a b c d : Bool) → Most (48 + 22 * (if b then count else if c then count else 0))
-        (if a then codes "none" else if b then list "array:" ops place count else if c then list "char6:" ops place count else if d then
+    by_tests : (a b c d : Bool) → Most (48 + 22 * (when b then count else when c then count else 0))
+        (when a then codes "none" else when b then list "array:" ops place count else when c then list "char6:" ops place count else when d then
         named "blob:" place ++ named "," count else decimal k)
     by_tests true b c d = more (codes_most "none") (omega arith)
     by_tests false true c d = more (list_most "array:" ops place count) (omega arith)
@@ -149,14 +149,14 @@ record_most e ops =
 
 -- how many numbers of the operand store an entry tells of
 unfoldable pub entry_weight : List ℕ → ℕ
-entry_weight e = if eqb (get_or e 0 0) 3 then get_or e 4 0 + elements (get_or e 5 0) (get_or e 7 0) else 0
+entry_weight e = when eqb (get_or e 0 0) 3 then get_or e 4 0 + elements (get_or e 5 0) (get_or e 7 0) else 0
 
 rest_most : (e ops : List ℕ) → Most (95 + 22 * entry_weight e) (rest (get_or e 0 0) e ops)
-unfolding rest entry_weight if◌then◌else◌
+unfolding rest entry_weight when◌then◌else◌
 rest_most e ops = by_tests (eqb (get_or e 0 0) 1) (eqb (get_or e 0 0) 4) (eqb (get_or e 0 0) 3)
   where
-    by_tests : (a b c : Bool) → Most (95 + 22 * (if c then get_or e 4 0 + elements (get_or e 5 0) (get_or e 7 0) else 0))
-        (if a then body e else if b then body e else if c then record_text e ops else [])
+    by_tests : (a b c : Bool) → Most (95 + 22 * (when c then get_or e 4 0 + elements (get_or e 5 0) (get_or e 7 0) else 0))
+        (when a then body e else when b then body e else when c then record_text e ops else [])
     by_tests true b c = more (body_most e) (omega arith)
     by_tests false true c = more (body_most e) (omega arith)
     by_tests false false true = record_most e ops
@@ -189,12 +189,12 @@ entry_weights_front (suc n) events =
 
 pub dump_most : (w : Walked) (events ops : List ℕ)
     → Most (312 + 178 * shown w.events (length events) + 22 * entry_weights (shown w.events (length events)) events) (dump w events ops)
-unfolding dump if◌then◌else◌
+unfolding dump when◌then◌else◌
 dump_most w events ops = by_test (eqb w.status 0)
   where
     n : ℕ
     n = shown w.events (length events)
 
-    by_test : (t : Bool) → Most (312 + 178 * n + 22 * entry_weights n events) (if t then status_line w ++ front w ++ event_lines n events ops else status_line w)
+    by_test : (t : Bool) → Most (312 + 178 * n + 22 * entry_weights n events) (when t then status_line w ++ front w ++ event_lines n events ops else status_line w)
     by_test true = more (both (both (status_most w) (front_most w)) (lines_most n events ops)) (omega arith)
     by_test false = more (status_most w) (omega arith)

@@ -3,7 +3,7 @@ use Rattle.std.specs.Prelude.{List, [], ◌∷◌, ◌++◌, ℕ, zero, suc, ◌
 use Prim.Native.Char.{code}
 use Prim.Native.String.{String, [] as no_letter, ◌∷◌ as ◌then◌}
 use Rattle.terms.specs.Limits.{event_size}
-use Rattle.bits.specs.Reader.{if◌then◌else◌}
+use Rattle.bits.specs.Reader.{when◌then◌else◌}
 use Rattle.bitcode.specs.declared.Signature.{Signature}
 use Rattle.walk.specs.declared.Walked.{Walked}
 use Rattle.text.specs.Text.{decimal, word, items}
@@ -39,10 +39,10 @@ front w = signature w.header ++ named "\nevents=" w.events ++ codes "\n"
 -- "1 enter, 2 leave, 3 record, 4 skip"
 unfoldable pub kind : ℕ → List ℕ
 kind k =
-    if eqb k 1 then codes "enter" else
-    if eqb k 2 then codes "leave" else
-    if eqb k 3 then codes "record" else
-    if eqb k 4 then codes "skip" else decimal k
+    when eqb k 1 then codes "enter" else
+    when eqb k 2 then codes "leave" else
+    when eqb k 3 then codes "record" else
+    when eqb k 4 then codes "skip" else decimal k
 
 unfoldable pub head : ℕ → List ℕ → List ℕ
 head i e = named "event=" i ++ codes " kind=" ++ kind (get_or e 0 0) ++ named " block=" (get_or e 1 0)
@@ -63,10 +63,10 @@ list name ops place count = codes name ++ listed (take count (drop place ops))
 -- "Payload: 0 none, 1 array, 2 Char6 array, 3 blob"; "`array:`, `char6:` with the list, `blob:` with place,length"
 unfoldable pub payload : ℕ → ℕ → ℕ → List ℕ → List ℕ
 payload k place count ops =
-    if eqb k 0 then codes "none" else
-    if eqb k 1 then list "array:" ops place count else
-    if eqb k 2 then list "char6:" ops place count else
-    if eqb k 3 then named "blob:" place ++ named "," count else decimal k
+    when eqb k 0 then codes "none" else
+    when eqb k 1 then list "array:" ops place count else
+    when eqb k 2 then list "char6:" ops place count else
+    when eqb k 3 then named "blob:" place ++ named "," count else decimal k
 
 -- "record (block, code, first operand place, operand count, payload kind, payload place, payload length)"
 unfoldable pub record_text : List ℕ → List ℕ → List ℕ
@@ -76,9 +76,9 @@ record_text e ops =
 -- what follows the block number
 unfoldable pub rest : ℕ → List ℕ → List ℕ → List ℕ
 rest k e ops =
-    if eqb k 1 then body e else
-    if eqb k 4 then body e else
-    if eqb k 3 then record_text e ops else []
+    when eqb k 1 then body e else
+    when eqb k 4 then body e else
+    when eqb k 3 then record_text e ops else []
 
 unfoldable pub event_line : ℕ → List ℕ → List ℕ → List ℕ
 event_line i e ops = head i e ++ rest (get_or e 0 0) e ops ++ codes "\n"
@@ -100,4 +100,4 @@ shown told size = min told (size / event_size)
 -- "A refusal prints the first line only"
 unfoldable pub dump : Walked → List ℕ → List ℕ → List ℕ
 dump w events ops =
-    if eqb w.status 0 then status_line w ++ front w ++ event_lines (shown w.events (length events)) events ops else status_line w
+    when eqb w.status 0 then status_line w ++ front w ++ event_lines (shown w.events (length events)) events ops else status_line w

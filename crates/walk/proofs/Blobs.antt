@@ -8,7 +8,7 @@ use native.Mathlib.Numerals.{add-one}
 use lib.ListN.{get_or, length, take, drop}
 use lib.Seq.{drop-cons}
 use borrow.Author.Tests.{le-leb}
-use Rattle.bits.specs.Reader.{if◌then◌else◌}
+use Rattle.bits.specs.Reader.{when◌then◌else◌}
 use Rattle.bits.specs.Bits.{field}
 use Rattle.bits.proofs.Laws.{Bytes, field_in_byte}
 use Rattle.bitcode.specs.Header.{bytes_of}
@@ -38,5 +38,5 @@ octets_part s b (suc n) h l =
 
 -- a blob that the walk reads at the byte b of the stream is shown whole
 pub blob_shown : (s : List ℕ) (b n : ℕ) → Bytes s → b + n ≤ length s → bytes_of s b n ≡ octets s (8 * b) n
-unfolding bytes_of if◌then◌else◌
+unfolding bytes_of when◌then◌else◌
 blob_shown s b n h l = rw (le-leb (b + n) (length s) l) (sym (octets_part s b n h l))

@@ -8,7 +8,7 @@ use lib.ListN.{length}
 use lib.Dec.{ltb}
 use Rattle.terms.specs.Limits.{max_input}
 use Rattle.terms.specs.Refusals.{Refusal}
-use Rattle.bits.specs.Reader.{Answer, got, refused, if◌then◌else◌}
+use Rattle.bits.specs.Reader.{Answer, got, refused, when◌then◌else◌}
 use Rattle.bitcode.specs.declared.Signature.{Signature}
 use Rattle.bitcode.specs.Header.{Opened, unsigned, opened, signature}
 use Rattle.walk.specs.Piece.{Pieces}
@@ -30,9 +30,9 @@ stream_apart skips n m h xs (opened h' s) z =
     let (q, w₁, w₂) = outcome_apart h h' xs (top_items skips n m s (length s) 0) z in
     (s, q, ap (λ y. opened y s) w₁, w₂)
 
-short_apart : {h : Signature} {xs : Pieces} (b : Bool) (r : Refusal) (o : Outcome) → (if b then denied r else o) ≡ accepted h xs
+short_apart : {h : Signature} {xs : Pieces} (b : Bool) (r : Refusal) (o : Outcome) → (when b then denied r else o) ≡ accepted h xs
     → (b ≡ false) × (o ≡ accepted h xs)
-unfolding if◌then◌else◌
+unfolding when◌then◌else◌
 short_apart true r o z = absurd (let y : ◌≡◌ {A = ℕ} 0 1 = cc in omega arith)
 short_apart false r o z = (refl, z)
 
@@ -49,5 +49,5 @@ walk_apart bs skips n m h xs z =
 pub walk_make : (bs : List ℕ) (skips : Pass) (n m : ℕ) (h : Signature) (xs : Pieces) (s : List ℕ) (q : ℕ)
     → ltb max_input (length bs) ≡ false
     → signature bs ≡ opened h s → top_items skips n m s (length s) 0 ≡ got xs q → walk_by bs skips n m ≡ accepted h xs
-unfolding walk_by walk_stream outcome if◌then◌else◌
+unfolding walk_by walk_stream outcome when◌then◌else◌
 walk_make bs skips n m h xs s q e₁ e₂ e₃ = rw e₁ (ap (λ o. walk_stream o skips n m) e₂ ∙ ap (λ x. outcome h x) e₃)

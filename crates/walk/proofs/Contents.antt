@@ -7,7 +7,7 @@ use native.Mathlib.Omega.{arith}
 use lib.ListN.{length, length-append, take, drop}
 use lib.Seq.{take_at, drop_at}
 use borrow.Author.Tests.{ne_eqb}
-use Rattle.bits.specs.Reader.{if◌then◌else◌}
+use Rattle.bits.specs.Reader.{when◌then◌else◌}
 use Rattle.walk.specs.Record.{Load, no_load, list_load, blob_load, Record, a_record, octets, load_list, record_list}
 use Rattle.walk.specs.Piece.{Head, head, Piece, the_record, definition, blockinfo, skipped, block, Pieces, done, ◌then◌, Event, record_of, entering, skipping, leaving, events, all_events, store, all_store}
 use Rattle.walk.specs.Shown.{Shown, enters, skips, leaves, holds, Blobs, payload, shown, all_shown}
@@ -75,13 +75,13 @@ part_at : (P vs S : List ℕ) (f : ℕ) → length P ≡ f → take (length vs) 
 part_at P vs S f h = ap (λ y. take (length vs) y) (drop_at P (vs ++ S) f h) ∙ take_at vs S (length vs) refl
 
 no_blob : (blobs : Blobs) (l : List ℕ) (k at n : ℕ) → k < 3 → payload blobs l k at n ≡ take n (drop at l)
-unfolding payload if◌then◌else◌
+unfolding payload when◌then◌else◌
 no_blob blobs l k at n h = rw (ne_eqb k 3 (λ e. omega arith))
 
 module _ (s : List ℕ) (blobs : Blobs) (reads : Reads s blobs) where
   shown_record : (P S : List ℕ) (b f : ℕ) (r : Record) → length P ≡ f → RecordAt s r
       → shown blobs (P ++ (record_list r ++ S)) (record_of b f r) ≡ record_held b r
-  unfolding shown record_of record_list load_list record_held RecordAt LoadAt payload if◌then◌else◌
+  unfolding shown record_of record_list load_list record_held RecordAt LoadAt payload when◌then◌else◌
   shown_record P S b f (a_record code vs no_load) h z =
       ap (λ y. holds b code y 0 []) (ap (λ y. take (length vs) (drop f (P ++ y))) (append_assoc vs [] S) ∙ part_at P vs S f h)
   shown_record P S b f (a_record code vs (list_load k xs)) h z =

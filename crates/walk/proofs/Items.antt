@@ -9,7 +9,7 @@ use lib.ListN.{length, take, set}
 use borrow.Author.Tests.{lt-ltb, le-ltb, le-leb, lt-leb, ne_eqb}
 use Rattle.terms.specs.Limits.{event_size}
 use Rattle.terms.specs.Refusals.{No, no, Refusal, refusal}
-use Rattle.bits.specs.Reader.{Reader, Answer, got, refused, onward, ◌>>=◌, give, stop, require, if◌then◌else◌, here, turns, at_place, placed}
+use Rattle.bits.specs.Reader.{Reader, Answer, got, refused, onward, ◌>>=◌, give, stop, require, when◌then◌else◌, here, turns, at_place, placed}
 use Rattle.bits.specs.Bits.{limit, align, ends_at}
 use Rattle.bits.specs.Told.{Off}
 use Rattle.bits.specs.declared.Cursor.{Cursor}
@@ -52,27 +52,27 @@ module _ (s skip : List ℕ) (f : Frame) (st : State) where
     -- BLOCKINFO
     pub info_done : {xs : List Shared} {to : ℕ} → turns (λ k. info k w nothing (length st.shareds)) s (g.at / 8 + n) g.at ≡ got xs to
         → completed s skip f st (headed_at m 0 w n g) ≡ got (some (blockinfo m.at (head 0 w (g.at / 8) n) xs)) (g.at + 8 * n)
-    unfolding onward complete body_of if◌then◌else◌ within give ◌>>=◌
+    unfolding onward complete body_of when◌then◌else◌ within give ◌>>=◌
     info_done z = rw z
 
     pub info_off : {r : Refusal} → turns (λ k. info k w nothing (length st.shareds)) s (g.at / 8 + n) g.at ≡ refused r
         → completed s skip f st (headed_at m 0 w n g) ≡ refused r
-    unfolding onward complete body_of if◌then◌else◌ within give ◌>>=◌
+    unfolding onward complete body_of when◌then◌else◌ within give ◌>>=◌
     info_off z = rw z
 
     module _ (b : ℕ) (h : b ≡ 0 → ⊥) where
       -- a block of the skip list
       pub skip_done : listed b skip ≡ true → 0 < st.room → completed s skip f st (headed_at m b w n g) ≡ got (some (skipped m.at (head b w (g.at / 8) n))) (g.at + 8 * n)
-      unfolding onward complete body_of if◌then◌else◌ within give event_room require those ◌>>=◌
+      unfolding onward complete body_of when◌then◌else◌ within give event_room require those ◌>>=◌
       skip_done z r = rw (ne_eqb b 0 h, z, lt-ltb 0 st.room r)
 
       pub skip_full : listed b skip ≡ true → st.room ≡ 0 → completed s skip f st (headed_at m b w n g) ≡ refused (refusal 18 m.at 0 0)
-      unfolding onward complete body_of if◌then◌else◌ event_room require those ◌>>=◌
+      unfolding onward complete body_of when◌then◌else◌ event_room require those ◌>>=◌
       skip_full z r = rw (ne_eqb b 0 h, z, r)
 
       -- a block that can't be entered
       pub enter_deep : listed b skip ≡ false → f.left ≡ 0 → completed s skip f st (headed_at m b w n g) ≡ refused (refusal 16 m.at b 0)
-      unfolding onward complete body_of if◌then◌else◌ nested stop those ◌>>=◌
+      unfolding onward complete body_of when◌then◌else◌ nested stop those ◌>>=◌
       enter_deep z l = rw (ne_eqb b 0 h, z, l)
 
       nested_full : (d : ℕ) (skips : Pass) (p at e q : ℕ) → 0 < d → st.room ≡ 0 → nested d skips p (head b w at n) st s e q ≡ refused (refusal 18 p 0 0)
@@ -81,26 +81,26 @@ module _ (s skip : List ℕ) (f : Frame) (st : State) where
       nested_full (suc d) skips p at e q l r = rw r
 
       pub enter_full : listed b skip ≡ false → 0 < f.left → st.room ≡ 0 → completed s skip f st (headed_at m b w n g) ≡ refused (refusal 18 m.at 0 0)
-      unfolding onward complete body_of if◌then◌else◌ those ◌>>=◌
+      unfolding onward complete body_of when◌then◌else◌ those ◌>>=◌
       enter_full z l r = rw (ne_eqb b 0 h, z, nested_full f.left (λ from b. listed b skip) m.at (g.at / 8) f.end g.at l r)
 
 -- ---- an item, by its number
 module _ (c : Context) (st : State) (from : ℕ) (s : List ℕ) (e q : ℕ) where
   -- 0
   pub leave_off : {n x y : ℕ} → align s e q ≡ refused (no n x y) → numbered c st from 0 s e q ≡ refused (refusal n from x y)
-  unfolding begun if◌then◌else◌ ◌>>=◌ onward placed at_place
+  unfolding begun when◌then◌else◌ ◌>>=◌ onward placed at_place
   leave_off z = rw z
 
   pub leave_top : {r : ℕ} → align s e q ≡ got tt r → c.top ≡ true → numbered c st from 0 s e q ≡ got ended r
-  unfolding begun finish if◌then◌else◌ ◌>>=◌ onward placed at_place leave_room give
+  unfolding begun finish when◌then◌else◌ ◌>>=◌ onward placed at_place leave_room give
   leave_top z t = rw (z, t)
 
   pub leave_full : {r : ℕ} → align s e q ≡ got tt r → c.top ≡ false → st.room ≡ 0 → numbered c st from 0 s e q ≡ refused (refusal 18 from 0 0)
-  unfolding begun finish if◌then◌else◌ ◌>>=◌ onward placed at_place leave_room event_room require give
+  unfolding begun finish when◌then◌else◌ ◌>>=◌ onward placed at_place leave_room event_room require give
   leave_full z t h = rw (z, t, h)
 
   pub leave_done : {r : ℕ} → align s e q ≡ got tt r → c.top ≡ false → 0 < st.room → numbered c st from 0 s e q ≡ got ended r
-  unfolding begun finish if◌then◌else◌ ◌>>=◌ onward placed at_place leave_room event_room require give
+  unfolding begun finish when◌then◌else◌ ◌>>=◌ onward placed at_place leave_room event_room require give
   leave_done z t h = rw (z, t, lt-ltb 0 st.room h)
 
   -- a front and what it needs further, both inside the item: one reader, and then the rest
@@ -127,7 +127,7 @@ module _ (c : Context) (st : State) (from : ℕ) (s : List ℕ) (e q : ℕ) wher
       go (refused (no n x y)) = refl
 
   head_is : numbered c st from 1 s e q ≡ (placed from head_fits >>= (λ h. give (headed from h))) s e q
-  unfolding begun finish head_fits if◌then◌else◌
+  unfolding begun finish head_fits when◌then◌else◌
   head_is = two_parts heading heads (λ h. fits h >>= (λ u. give h)) (λ h. give (headed from h)) fits_told
 
   pub head_done : {h : Head} {r : ℕ} → head_fits s e q ≡ got h r → numbered c st from 1 s e q ≡ got (headed from h) r
@@ -140,15 +140,15 @@ module _ (c : Context) (st : State) (from : ℕ) (s : List ℕ) (e q : ℕ) wher
 
   -- 2
   pub define_off : {n x y : ℕ} → define s e q ≡ refused (no n x y) → numbered c st from 2 s e q ≡ refused (refusal n from x y)
-  unfolding begun if◌then◌else◌ ◌>>=◌ onward placed at_place
+  unfolding begun when◌then◌else◌ ◌>>=◌ onward placed at_place
   define_off z = rw z
 
   pub define_full : {a : Abbrev} {r : ℕ} → define s e q ≡ got a r → 32 ≤ st.locals → numbered c st from 2 s e q ≡ refused (refusal 17 from 0 0)
-  unfolding begun finish if◌then◌else◌ ◌>>=◌ onward placed at_place require give
+  unfolding begun finish when◌then◌else◌ ◌>>=◌ onward placed at_place require give
   define_full z h = rw (z, le-ltb st.locals 32 h)
 
   pub define_done : {a : Abbrev} {r : ℕ} → define s e q ≡ got a r → st.locals < 32 → numbered c st from 2 s e q ≡ got (defined a) r
-  unfolding begun finish if◌then◌else◌ ◌>>=◌ onward placed at_place require give
+  unfolding begun finish when◌then◌else◌ ◌>>=◌ onward placed at_place require give
   define_done z h = rw (z, lt-ltb st.locals 32 h)
 
   -- 3 and up: a record
@@ -156,11 +156,11 @@ module _ (c : Context) (st : State) (from : ℕ) (s : List ℕ) (e q : ℕ) wher
   recording x = placed from x >>= (λ r. event_room from st >>= (λ u. give (recorded from c.number st.fill r)))
 
   pub plain_is : numbered c st from 3 s e q ≡ recording (plain st.left) s e q
-  unfolding begun finish plain if◌then◌else◌ recording
+  unfolding begun finish plain when◌then◌else◌ recording
   plain_is = two_parts (unabbreviated st.left) records (rest st.left) (λ r. event_room from st >>= (λ u. give (recorded from c.number st.fill r))) (λ a p. refl)
 
   used_is : (n : ℕ) → 4 ≤ n → numbered c st from n s e q ≡ recording (used c st n >>= rest st.left) s e q
-  unfolding begun finish if◌then◌else◌ recording
+  unfolding begun finish when◌then◌else◌ recording
   used_is n h =
       rw (ne_eqb n 0 (λ z. omega arith), ne_eqb n 1 (λ z. omega arith), ne_eqb n 2 (λ z. omega arith), ne_eqb n 3 (λ z. omega arith))
       (two_parts (used c st n) records (rest st.left) (λ r. event_room from st >>= (λ u. give (recorded from c.number st.fill r))) (λ a p. refl))
@@ -192,19 +192,19 @@ module _ (c : Context) (st : State) (from : ℕ) (s : List ℕ) (e q : ℕ) wher
 -- ---- an item's opening
 module _ (c : Context) (st : State) (s : List ℕ) (e p : ℕ) where
   pub open_top : limit s e ≤ p → c.top ≡ true → opening c st s e p ≡ got ended p
-  unfolding opening here at_end ends_at ◌>>=◌ onward if◌then◌else◌ require give
+  unfolding opening here at_end ends_at ◌>>=◌ onward when◌then◌else◌ require give
   open_top h t = rw (le-leb (limit s e) p h, t)
 
   pub open_missing : limit s e ≤ p → c.top ≡ false → opening c st s e p ≡ refused (refusal 9 p c.number 0)
-  unfolding opening here at_end ends_at ◌>>=◌ onward if◌then◌else◌ require give
+  unfolding opening here at_end ends_at ◌>>=◌ onward when◌then◌else◌ require give
   open_missing h t = rw (le-leb (limit s e) p h, t)
 
   pub open_off : {n x y : ℕ} → p < limit s e → number_of c.wide s e p ≡ refused (no n x y) → opening c st s e p ≡ refused (refusal n p x y)
-  unfolding opening here at_end ends_at begin ◌>>=◌ onward if◌then◌else◌ placed at_place
+  unfolding opening here at_end ends_at begin ◌>>=◌ onward when◌then◌else◌ placed at_place
   open_off h z = rw (lt-leb (limit s e) p h, z)
 
   pub open_number : {n q : ℕ} → p < limit s e → number_of c.wide s e p ≡ got n q → opening c st s e p ≡ numbered c st p n s e q
-  unfolding opening here at_end ends_at begin ◌>>=◌ onward if◌then◌else◌ placed at_place
+  unfolding opening here at_end ends_at begin ◌>>=◌ onward when◌then◌else◌ placed at_place
   open_number h z = rw (lt-leb (limit s e) p h, z)
 
 -- ---- what each item does to the stores and to the state
@@ -236,7 +236,7 @@ module _ (s skip : List ℕ) (f : Frame) (m : Marks) (own : List ℕ) (t : Table
   -- the top level ends, by an END or where its bits end
   pub ended_top : (at : ℕ) {x : Answer Refusal Opening} → f.top ≡ true → x ≡ got ended at
       → Ended s skip f m (marks at m.events m.operands m.shared f.base) own t ev ev ops ops x
-  unfolding closed if◌then◌else◌ entries
+  unfolding closed when◌then◌else◌ entries
   ended_top at top z = rw top (record {
     gives = completed_ended s skip f St z;
     room = room_none m at m.shared f.base ev ops sits.events sits.operands;
@@ -248,7 +248,7 @@ module _ (s skip : List ℕ) (f : Frame) (m : Marks) (own : List ℕ) (t : Table
   pub ended_block : (at : ℕ) (ev' : List ℕ) {x : Answer Refusal Opening} → f.top ≡ false → x ≡ got ended at → m.events + event_size ≤ length ev → length ev' ≡ length ev
       → take (m.events + event_size) ev' ≡ take m.events ev ++ entry (leave f.number)
       → Ended s skip f m (marks at (m.events + event_size) m.operands m.shared f.base) own t ev ev' ops ops x
-  unfolding closed if◌then◌else◌
+  unfolding closed when◌then◌else◌
   ended_block at ev' top z h p told = rw top (record {
     gives = completed_ended s skip f St z;
     room = room_event m at m.shared f.base (leave f.number) ev ev' ops h p sits.operands told;

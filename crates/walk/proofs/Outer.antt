@@ -11,7 +11,7 @@ use lib.Seq.{length-take-le, take-suc-set, drop-cons}
 use borrow.Author.Tests.{lt-ltb, le-ltb, eq-eqb, ne_eqb}
 use Rattle.terms.specs.Limits.{max_input, event_size}
 use Rattle.terms.specs.Refusals.{Refusal, refusal}
-use Rattle.bits.specs.Reader.{Answer, refused, if◌then◌else◌, turns}
+use Rattle.bits.specs.Reader.{Answer, refused, when◌then◌else◌, turns}
 use Rattle.bitcode.specs.declared.Signature.{Signature}
 use Rattle.bitcode.specs.declared.Parsed.TheVariants as P
 use Rattle.bitcode.specs.Header.{Opened, unsigned, opened, signature, parsed, stream}
@@ -38,11 +38,11 @@ module _ (b : ℕ) (xs : List ℕ) (i : ℕ) where
   listed_none h = ap (listed b) (drop_of_length-le xs h)
 
   pub listed_here : i < length xs → get_or xs i 0 ≡ b → listed b (drop i xs) ≡ true
-  unfolding listed if◌then◌else◌
+  unfolding listed when◌then◌else◌
   listed_here h e = ap (listed b) (drop-cons xs i 0 h) ∙ rw (eq-eqb (get_or xs i 0) b e)
 
   pub listed_next : i < length xs → (get_or xs i 0 ≡ b → ⊥) → listed b (drop i xs) ≡ listed b (drop (i + 1) xs)
-  unfolding listed if◌then◌else◌
+  unfolding listed when◌then◌else◌
   listed_next h n = ap (listed b) (drop-cons xs i 0 h) ∙ rw (ne_eqb (get_or xs i 0) b n) (ap (λ j. listed b (drop j xs)) (sym (add-one i)))
 
 -- ---- zeros: one more behind what a store held up to f
@@ -65,7 +65,7 @@ body_is s skip t ne nops =
     (sub-zero ne) (sub-zero nops)
 
 none_closed : (end : ℕ) → entries (closed (outermost end)) ≡ []
-unfolding closed if◌then◌else◌ entries
+unfolding closed when◌then◌else◌ entries
 none_closed end = refl
 
 -- the state that it begins with has the tables' sizes
@@ -94,11 +94,11 @@ stream_is s skip ev ev' ops ops' t t' have local r i j h = go r (rw (i, j) at h)
 -- ---- the whole call: 15, then 1, then the walk
 module _ (bs skip : List ℕ) (ne nops : ℕ) where
   pub too_long : max_input < length bs → walk bs skip ne nops ≡ denied (refusal 15 0 0 0)
-  unfolding walk walk_by if◌then◌else◌
+  unfolding walk walk_by when◌then◌else◌
   too_long h = rw (lt-ltb max_input (length bs) h)
 
   walks_on : length bs ≤ max_input → walk bs skip ne nops ≡ walk_stream (signature bs) (those skip) ne nops
-  unfolding walk walk_by if◌then◌else◌
+  unfolding walk walk_by when◌then◌else◌
   walks_on h = rw (le-ltb max_input (length bs) h)
 
   pub unheaded : {e : ℕ} → length bs ≤ max_input → P.Refused e ≡ parsed (signature bs) → walk bs skip ne nops ≡ denied (refusal e 0 0 0)

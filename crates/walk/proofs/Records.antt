@@ -11,7 +11,7 @@ use lib.Dec.{leb, ltb}
 use borrow.Rule.Slice.PartMut.{put_mid}
 use borrow.Author.Tests.{le-leb, lt-leb, lt-ltb, ne_eqb, leb-true}
 use Rattle.terms.specs.Refusals.{No, buffer_overflow, invalid_abbrev, block_number_too_large}
-use Rattle.bits.specs.Reader.{Reader, Answer, got, refused, onward, ◌>>=◌, give, stop, require, if◌then◌else◌}
+use Rattle.bits.specs.Reader.{Reader, Answer, got, refused, onward, ◌>>=◌, give, stop, require, when◌then◌else◌}
 use Rattle.bits.specs.Bits.{limit, align, vbr, skip}
 use Rattle.bits.specs.Told.{At, Off}
 use Rattle.bits.specs.declared.Cursor.{Cursor}
@@ -115,7 +115,7 @@ plain_reads {code = code} {n = n} ops ops' ys fill x y z h t m = record {
 -- ---- a payload
 pub none_loads : {g : Cursor} {s : List ℕ} (left l code n fill : ℕ) (k : ScalarOperand) (ops : List ℕ) → l ≡ 0 → fill ≤ length ops
     → Loads g s (load left (load_of l k)) ops ops (record_read code n 0 0 0 fill) (record_read code n 0 0 0 fill) g
-unfolding load load_of if◌then◌else◌ record_of load_list
+unfolding load load_of when◌then◌else◌ record_of load_list
 none_loads left l code n fill k ops h m = rw h (record {
   load_read = no_load;
   gives = ends;
@@ -226,12 +226,12 @@ module _ (left : ℕ) (kinds widths : List ℕ) (base shape : ℕ) where
 -- the payload by its number
 pub array_told : (g : Cursor) (s : List ℕ) (a b l : ℕ) (k : ScalarOperand) (ops ops' : List ℕ) (r : RecordRead) (t : Got) → l ≡ 1 → a ≡ b
     → Loaded g s (load a (array k)) ops ops' r t → Loaded g s (load b (load_of l k)) ops ops' r t
-unfolding load_of if◌then◌else◌
+unfolding load_of when◌then◌else◌
 array_told g s a b l k ops ops' r t h e x =
     subst (λ z. Loaded g s (load z (load_of l k)) ops ops' r t) e (subst (λ z. Loaded g s (load a (load_of z k)) ops ops' r t) (sym h) x)
 
 is_blob : (l : ℕ) (k : ScalarOperand) → (l ≡ 0 → ⊥) → (l ≡ 1 → ⊥) → load_of l k ≡ blob
-unfolding load_of if◌then◌else◌
+unfolding load_of when◌then◌else◌
 is_blob l k h j = rw (ne_eqb l 0 h, ne_eqb l 1 j)
 
 pub blob_told : (g : Cursor) (s : List ℕ) (b l : ℕ) (k : ScalarOperand) (ops ops' : List ℕ) (r : RecordRead) (t : Got) → (l ≡ 0 → ⊥) → (l ≡ 1 → ⊥)

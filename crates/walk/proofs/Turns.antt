@@ -10,7 +10,7 @@ use lib.ListN.{length}
 use lib.Dec.{ltb}
 use borrow.Author.Tests.{leb-false}
 use Rattle.terms.specs.Refusals.{Refusal, vbr_overflow}
-use Rattle.bits.specs.Reader.{Reader, got, onward, ◌>>=◌, give, if◌then◌else◌, here, turns}
+use Rattle.bits.specs.Reader.{Reader, got, onward, ◌>>=◌, give, when◌then◌else◌, here, turns}
 use Rattle.bits.specs.Bits.{limit, read, chunks, ends_at}
 use Rattle.bits.proofs.Steps.{apart, passed, arms, got_value}
 use Rattle.bits.proofs.Laws.{limit_in}
@@ -22,8 +22,8 @@ use Rattle.walk.specs.Item.{Context, Opening, ended, at_end, opening, Pass, Sub,
 use Rattle.walk.proofs.Answers.{SubFits, ItemFits, item_answers}
 
 -- ---- VBR
-same_else : {R A : Type 0} (b : Bool) (x y z : Reader R A) (s : List ℕ) (e p : ℕ) → y s e p ≡ z s e p → (if b then x else y) s e p ≡ (if b then x else z) s e p
-unfolding if◌then◌else◌
+same_else : {R A : Type 0} (b : Bool) (x y z : Reader R A) (s : List ℕ) (e p : ℕ) → y s e p ≡ z s e p → (when b then x else y) s e p ≡ (when b then x else z) s e p
+unfolding when◌then◌else◌
 same_else true x y z s e p h = refl
 same_else false x y z s e p h = h
 

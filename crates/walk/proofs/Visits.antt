@@ -11,7 +11,7 @@ use lib.Seq.{length-take-le, take_at}
 use borrow.Author.Tests.{lt-ltb, ne_eqb}
 use Rattle.terms.specs.Limits.{event_size}
 use Rattle.terms.specs.Refusals.{Refusal}
-use Rattle.bits.specs.Reader.{Reader, Answer, got, refused, onward, ◌>>=◌, give, require, turns, if◌then◌else◌}
+use Rattle.bits.specs.Reader.{Reader, Answer, got, refused, onward, ◌>>=◌, give, require, turns, when◌then◌else◌}
 use Rattle.bits.specs.Bits.{limit}
 use Rattle.bits.proofs.Steps.{mapped, mapped_twice, mapped_same, mapped_got, mapped_off, gives_mapped, so, so_off}
 use Rattle.bits.proofs.Vbr.{Ahead}
@@ -320,11 +320,11 @@ within_off n m s e q z = rw z
 module _ (sub : Sub) (skips : Pass) (c : Context) (st : State) (s : List ℕ) (e p q from b w at n : ℕ)
     (o : opening c st s e p ≡ got (headed from (head b w at n)) q) (h : b ≡ 0 → ⊥) (k : skips from b ≡ false) where
   item_block : {xs : Pieces} {r : ℕ} → sub from (head b w at n) st s e q ≡ got xs r → item sub skips c st s e p ≡ got (some (block from (head b w at n) xs)) r
-  unfolding item complete body_of give ◌>>=◌ onward if◌then◌else◌
+  unfolding item complete body_of give ◌>>=◌ onward when◌then◌else◌
   item_block z = rw (o, ne_eqb b 0 h, k, z)
 
   item_no_block : {r : Refusal} → sub from (head b w at n) st s e q ≡ refused r → item sub skips c st s e p ≡ refused r
-  unfolding item complete body_of give ◌>>=◌ onward if◌then◌else◌
+  unfolding item complete body_of give ◌>>=◌ onward when◌then◌else◌
   item_no_block z = rw (o, ne_eqb b 0 h, k, z)
 
 module _ {s skip : List ℕ} {f : Frame} {m₀ : Marks} {own : List ℕ} {t₀ : Tables} {ev₀ ops₀ : List ℕ} {t : Tables} {ev ops : List ℕ} {m u : Marks} {b w n : ℕ}
@@ -406,7 +406,7 @@ module _ {s skip : List ℕ} {f : Frame} {m₀ : Marks} {own : List ℕ} {t₀ :
     Here = marks (u.at + 8 * n) v.events v.operands v.shared v.local
 
     whole_room : Room m v ev ev'' ops ops'' (entries (events Block)) (store Block)
-    unfolding events store entering leaving closed if◌then◌else◌ entries
+    unfolding events store entering leaving closed when◌then◌else◌ entries
     whole_room =
         room_as (ap (λ l. entry (enter b w (u.at / 8) n) ++ l) (sym (entries_append (all_events z.pieces) (leave b ∷ [])))) refl
         (room_then d.room z.room)

@@ -6,13 +6,13 @@ use Prim.Native.Nat.{ℕ, ◌+◌, ◌≤◌}
 use native.Mathlib.Omega.{arith}
 use lib.Dec.{eqb}
 use lib.ListN.{length, length-append}
-use Rattle.bits.specs.Reader.{if◌then◌else◌}
+use Rattle.bits.specs.Reader.{when◌then◌else◌}
 use Rattle.walk.specs.Record.{no_load, list_load, blob_load, Record, a_record, load_list, record_list}
 use Rattle.walk.specs.Piece.{head, Head, Event, enter, skip, leave, record_event, record_of, entering, skipping, leaving, Piece, the_record, definition, blockinfo, skipped, block, Pieces, done, ◌then◌, events, all_events, store, all_store}
 
 -- of a payload: its kind, and its length
 unfoldable pub elements : ℕ → ℕ → ℕ
-elements k n = if eqb k 1 then n else if eqb k 2 then n else 0
+elements k n = when eqb k 1 then n else when eqb k 2 then n else 0
 
 unfoldable pub weight : Event → ℕ
 weight (enter b w at n) = 0
@@ -30,16 +30,16 @@ weights_append [] ys = omega arith
 weights_append (x ∷ xs) ys = omega (arith, weights_append xs ys)
 
 elements_most : (k n : ℕ) → elements k n ≤ n
-unfolding elements if◌then◌else◌
+unfolding elements when◌then◌else◌
 elements_most k n = by_tests (eqb k 1) (eqb k 2)
   where
-    by_tests : (a b : Bool) → (if a then n else if b then n else 0) ≤ n
+    by_tests : (a b : Bool) → (when a then n else when b then n else 0) ≤ n
     by_tests true b = omega arith
     by_tests false true = omega arith
     by_tests false false = omega arith
 
 blob_elements : (n : ℕ) → elements 3 n ≡ 0
-unfolding elements if◌then◌else◌
+unfolding elements when◌then◌else◌
 blob_elements n = refl
 
 record_weight : (b first : ℕ) (r : Record) → weight (record_of b first r) ≤ length (record_list r)

@@ -10,7 +10,7 @@ use lib.Dec.{T, ltb}
 use lib.ListN.{length, length-append, replicate, length-replicate}
 use Rattle.terms.specs.Limits.{max_input, max_open, event_size}
 use Rattle.terms.specs.Refusals.{Refusal, refusal, walk_number}
-use Rattle.bits.specs.Reader.{Answer, got, refused, if◌then◌else◌}
+use Rattle.bits.specs.Reader.{Answer, got, refused, when◌then◌else◌}
 use Rattle.bits.proofs.Answers.{KnownAt, Has, turned}
 use Rattle.bitcode.specs.declared.Signature.{Signature}
 use Rattle.bitcode.specs.Header.{Opened, unsigned, opened, signature}
@@ -70,8 +70,8 @@ stream_fits unsigned skips n m = tt
 stream_fits (opened h s) skips n m =
     outcome_fits n m 0 s h _ (turned (λ k. item_runs k (nested max_open skips) skips _ (start n m) s (length s) 0 (nesteds max_open skips))).has
 
-by_fits : (b : Bool) (o : Opened) (skips : Pass) (n m : ℕ) → Fits n m (if b then denied (refusal 15 0 0 0) else walk_stream o skips n m)
-unfolding if◌then◌else◌ Fits KnownAt
+by_fits : (b : Bool) (o : Opened) (skips : Pass) (n m : ℕ) → Fits n m (when b then denied (refusal 15 0 0 0) else walk_stream o skips n m)
+unfolding when◌then◌else◌ Fits KnownAt
 by_fits true o skips n m = tt
 by_fits false o skips n m = stream_fits o skips n m
 

@@ -3,7 +3,7 @@ use Rattle.std.specs.Prelude.{Bool, true, false, ℕ, zero, suc, ◌+◌, ◌-�
 use Rattle.std.proofs.Math.Option.{Option, none as nothing, some}
 use Rattle.terms.specs.Limits.{max_local}
 use Rattle.terms.specs.Refusals.{No, Refusal, at_bit, buffer_overflow, no_such_abbrev, missing_end_block, too_deep, no_abbreviation_room, no_event_room, block_number_too_large}
-use Rattle.bits.specs.Reader.{Reader, got, onward, ◌>>=◌, ◌>>◌, give, stop, require, if◌then◌else◌, here, turns, placed}
+use Rattle.bits.specs.Reader.{Reader, got, onward, ◌>>=◌, ◌>>◌, give, stop, require, when◌then◌else◌, here, turns, placed}
 use Rattle.bits.specs.Bits.{limit, read, align, vbr, ends_at}
 use Rattle.abbrev.specs.Abbrev.{Abbrev, define, number_of, look_up}
 use Rattle.abbrev.specs.BlockInfo.{info}
@@ -43,10 +43,10 @@ used c st n = do
 -- "0: align, end"; 1 a block; "2: local definition"; 3 an unabbreviated record; 4 and up an abbreviated one
 unfoldable pub begun : Context → State → ℕ → Reader No Begun
 begun c st n =
-    if eqb n 0 then (do align; give closing) else
-    if eqb n 1 then (do h ← heading; give (heads h)) else
-    if eqb n 2 then (do a ← define; give (defines a)) else
-    if eqb n 3 then (do x ← unabbreviated st.left; give (records x)) else
+    when eqb n 0 then (do align; give closing) else
+    when eqb n 1 then (do h ← heading; give (heads h)) else
+    when eqb n 2 then (do a ← define; give (defines a)) else
+    when eqb n 3 then (do x ← unabbreviated st.left; give (records x)) else
     (do x ← used c st n; give (records x))
 
 -- "read a number of the block's width", then what it says
@@ -99,7 +99,7 @@ unfoldable pub opening : Context → State → Reader Refusal Opening
 opening c st = do
   from ← here
   out ← at_end
-  if out then (do require c.top (at_bit from (missing_end_block c.number)); give ended) else (do
+  when out then (do require c.top (at_bit from (missing_end_block c.number)); give ended) else (do
     x ← placed from (begin c st)
     finish c st from x)
 
@@ -119,10 +119,10 @@ Sub = ℕ → Head → State → Reader Refusal Pieces
 -- "Number 0 is BLOCKINFO, read now. A number in the lent skip list gives a skip event, body unread; 0 there has no effect. Else .. the body"
 unfoldable pub body_of : Sub → Pass → ℕ → State → Head → Reader Refusal Piece
 body_of sub skips from st (head b w at n) =
-    if eqb b 0 then (do
+    when eqb b 0 then (do
       xs ← within n (turns (λ k. info k w nothing (length st.shareds)))
       give (blockinfo from (head b w at n) xs)) else
-    if skips from b then (do
+    when skips from b then (do
       event_room from st
       within n (give (tt {0}))
       give (skipped from (head b w at n))) else (do

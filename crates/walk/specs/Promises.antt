@@ -4,7 +4,7 @@ use Rattle.std.specs.Prelude.{◌≡◌, false, List, [], ◌∷◌, ◌++◌, �
 use Rattle.std.proofs.Math.Option.{Option, none as nothing, some}
 use Rattle.terms.specs.Limits.{event_size, max_shared, max_local}
 use Rattle.terms.specs.Refusals.{No, no, Refusal, refusal}
-use Rattle.bits.specs.Reader.{Reader, Answer, got, refused, onward, ◌>>=◌, ◌>>◌, give, if◌then◌else◌, here, turns, placed}
+use Rattle.bits.specs.Reader.{Reader, Answer, got, refused, onward, ◌>>=◌, ◌>>◌, give, when◌then◌else◌, here, turns, placed}
 use Rattle.bits.specs.Bits.{limit, read, vbr, align}
 use Rattle.bits.specs.Told.{At, Off}
 use Rattle.bits.specs.declared.Cursor.{Cursor}
@@ -103,7 +103,7 @@ pub record Room (m m' : Marks) (ev ev' ops ops' es os : List ℕ) : Type 0 where
 
 -- what a block's END writes: the top level has no leave event
 unfoldable pub closed : Frame → List Event
-closed f = if f.top then [] else leave f.number ∷ []
+closed f = when f.top then [] else leave f.number ∷ []
 
 -- a cursor of the block
 abbrev pub Behind : Frame → Cursor → Type 0

@@ -1,7 +1,7 @@
 -- The bench samples of 01 that are marked P, and its dump sample: the definition computes each. Assumes nothing.
 use Rattle.std.specs.Prelude.{◌≡◌, refl, List, [], ◌∷◌, map, ℕ, length, replicate, ℤ, pos, negsuc}
 use Rattle.terms.specs.Refusals.{No, no}
-use Rattle.bits.specs.Reader.{Answer, got, refused, onward, ◌>>=◌, give, stop, require, if◌then◌else◌, here, turns, at_place, placed}
+use Rattle.bits.specs.Reader.{Answer, got, refused, onward, ◌>>=◌, give, stop, require, when◌then◌else◌, here, turns, at_place, placed}
 use Rattle.bits.specs.Bits.{bit, field, limit, field_at, reach, read, align, chunks, vbr, ends_at, signed_of}
 use Rattle.bitcode.specs.Scalar.{ascii, value}
 use Rattle.bitcode.specs.Header.{word, wrapped, signature}
@@ -103,7 +103,7 @@ table =
     []
 
 samples : map asked table ≡ map reply table
-unfolding table asked reply ask saw refused_empty accepted_bare accepted_dump onward ◌>>=◌ give stop require if◌then◌else◌ here turns at_place placed
+unfolding table asked reply ask saw refused_empty accepted_bare accepted_dump onward ◌>>=◌ give stop require when◌then◌else◌ here turns at_place placed
     bit field limit field_at reach read align chunks vbr ends_at signed_of ascii value word wrapped signature
     width kind operand element also rest_of operands define number_of look_up
     shared_for every or_else readable chosen info_definition set_bid letters block_name record_name info_record info_numbered info_item info_on info

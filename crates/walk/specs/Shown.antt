@@ -1,7 +1,7 @@
 -- What an event shows to whoever looks it up in the operand store and in the input: all of it but the places (01, "Walk": "Body and blob places are bytes
 -- of the stream; array places are in the operand store"). Assumes nothing.
 use Rattle.std.specs.Prelude.{List, [], ◌∷◌, ℕ, ◌*◌, take, drop, eqb}
-use Rattle.bits.specs.Reader.{if◌then◌else◌}
+use Rattle.bits.specs.Reader.{when◌then◌else◌}
 use Rattle.bitcode.specs.Header.{signature, stream}
 use Rattle.walk.specs.Record.{octets}
 use Rattle.walk.specs.Piece.{Event, enter, skip, leave, record_event}
@@ -24,7 +24,7 @@ bytes_at bs at n = octets (stream (signature bs)) (8 * at) n
 
 -- "Payload: 0 none, 1 array, 2 Char6 array, 3 blob"; none has the length 0
 unfoldable pub payload : Blobs → List ℕ → ℕ → ℕ → ℕ → List ℕ
-payload blobs operands kind at n = if eqb kind 3 then blobs at n else take n (drop at operands)
+payload blobs operands kind at n = when eqb kind 3 then blobs at n else take n (drop at operands)
 
 unfoldable pub shown : Blobs → List ℕ → Event → Shown
 shown blobs operands (enter b w at n) = enters b w n

@@ -3,7 +3,7 @@
 use Rattle.std.specs.Prelude.{Bool, true, false, List, [], ◌∷◌, ◌++◌, ℕ, ◌-◌, ◌/◌, length, replicate, ltb, eqb}
 use Rattle.terms.specs.Limits.{max_input, max_open, event_size}
 use Rattle.terms.specs.Refusals.{Refusal, refusal, at_bit, invalid_signature, input_too_long}
-use Rattle.bits.specs.Reader.{Reader, Answer, got, refused, if◌then◌else◌, turns}
+use Rattle.bits.specs.Reader.{Reader, Answer, got, refused, when◌then◌else◌, turns}
 use Rattle.bitcode.specs.declared.Signature.{Signature}
 use Rattle.bitcode.specs.Header.{Opened, unsigned, opened, signature}
 use Rattle.walk.specs.Piece.{Event, enter, skip, leave, record_event, Pieces, all_events, all_store, State}
@@ -35,11 +35,11 @@ walk_stream unsigned skips n m = denied (at_bit 0 invalid_signature)
 walk_stream (opened h s) skips n m = outcome h (top_items skips n m s (length s) 0)
 
 unfoldable pub walk_by : List ℕ → Pass → ℕ → ℕ → Outcome
-walk_by bs skips n m = if ltb max_input (length bs) then denied (at_bit 0 input_too_long) else walk_stream (signature bs) skips n m
+walk_by bs skips n m = when ltb max_input (length bs) then denied (at_bit 0 input_too_long) else walk_stream (signature bs) skips n m
 
 unfoldable pub listed : ℕ → List ℕ → Bool
 listed b [] = false
-listed b (x ∷ xs) = if eqb x b then true else listed b xs
+listed b (x ∷ xs) = when eqb x b then true else listed b xs
 
 -- those whose number is in the skip list
 unfoldable pub those : List ℕ → Pass

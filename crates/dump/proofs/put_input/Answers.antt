@@ -1,13 +1,13 @@
 -- `dump::put_input` meets its contract: the walk's outcome and stores are the definition's, and their text is the dump's. Assumes nothing.
 use borrow.Author.Tests.{lt-ltb, le-ltb}
-use Rattle.bits.specs.Reader.{if◌then◌else◌}
+use Rattle.bits.specs.Reader.{when◌then◌else◌}
 use Rattle.dump.specs.Dumped.{shown, dumped}
 use Rattle.dump.proofs.put_input.Goals as goal
 
 pub returns-then-input-gt-MOST : goal.returns-then-input-gt-MOST
-unfolding dumped if◌then◌else◌
+unfolding dumped when◌then◌else◌
 returns-then-input-gt-MOST c = rw (lt-ltb 65536 _ c.if-input-gt-MOST.true) (rw c.too_long.ensures at c.put_status.ensures)
 
 pub returns : goal.returns
-unfolding dumped shown if◌then◌else◌
+unfolding dumped shown when◌then◌else◌
 returns c = rw (le-ltb 65536 _ c.if-input-gt-MOST.false) (rw (c.walk-w.ensures.answer, c.walk-w.ensures.events, c.walk-w.ensures.operands) at c.put_dump.ensures)

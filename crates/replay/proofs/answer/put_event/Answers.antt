@@ -1,27 +1,27 @@
 -- `replay::answer::put_event` meets its contract: each kind has its own. Assumes nothing.
 use borrow.Author.Tests.{ne_eqb}
-use Rattle.bits.specs.Reader.{if◌then◌else◌}
+use Rattle.bits.specs.Reader.{when◌then◌else◌}
 use Rattle.text.specs.Dump.{codes, named}
 use Rattle.text.proofs.Puts.{puts_none}
 use Rattle.replay.specs.Answer.{event_text}
 use Rattle.replay.proofs.answer.put_event.Goals as goal
 
 pub returns-in-1 : goal.returns-in-1
-unfolding event_text if◌then◌else◌
+unfolding event_text when◌then◌else◌
 returns-in-1 c = rw c.in-1.is c.put_enter.ensures
 
 pub returns-in-2 : goal.returns-in-2
-unfolding codes named event_text if◌then◌else◌
+unfolding codes named event_text when◌then◌else◌
 returns-in-2 c = rw c.in-2.is (rw c.number_at.ensures at c.put_named.ensures)
 
 pub returns-in-3 : goal.returns-in-3
-unfolding event_text if◌then◌else◌
+unfolding event_text when◌then◌else◌
 returns-in-3 c = rw c.in-3.is c.put_record.ensures
 
 pub returns-in-4 : goal.returns-in-4
-unfolding codes named event_text if◌then◌else◌
+unfolding codes named event_text when◌then◌else◌
 returns-in-4 c = rw c.in-4.is (rw c.number_at-in-4.ensures at c.put_named-in-4.ensures)
 
 pub returns-in_default : goal.returns-in_default
-unfolding event_text if◌then◌else◌
+unfolding event_text when◌then◌else◌
 returns-in_default c = let r = c.in_default.in_default-own.rest in rw (ne_eqb _ 1 r.0.0.0.1, ne_eqb _ 2 r.0.0.1, ne_eqb _ 3 r.0.1, ne_eqb _ 4 r.1) (puts_none _ _)

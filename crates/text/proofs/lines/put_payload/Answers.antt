@@ -1,26 +1,26 @@
 -- `text::lines::put_payload` meets its contract: each kind has its own. Assumes nothing.
 use borrow.Author.Tests.{ne_eqb}
-use Rattle.bits.specs.Reader.{if◌then◌else◌}
+use Rattle.bits.specs.Reader.{when◌then◌else◌}
 use Rattle.text.specs.Dump.{codes, named, list, payload}
 use Rattle.text.proofs.Puts.{puts_then}
 use Rattle.text.proofs.lines.put_payload.Goals as goal
 
 pub returns-in-0 : goal.returns-in-0
-unfolding codes payload if◌then◌else◌
+unfolding codes payload when◌then◌else◌
 returns-in-0 c = rw c.in-0.is c.put_bytes.ensures
 
 pub returns-in-1 : goal.returns-in-1
-unfolding codes list payload if◌then◌else◌
+unfolding codes list payload when◌then◌else◌
 returns-in-1 c = rw c.in-1.is (rw c.numbers_of.ensures at c.put_list.ensures)
 
 pub returns-in-2 : goal.returns-in-2
-unfolding codes list payload if◌then◌else◌
+unfolding codes list payload when◌then◌else◌
 returns-in-2 c = rw c.in-2.is (rw c.numbers_of-in-2.ensures at c.put_list-in-2.ensures)
 
 pub returns-in-3 : goal.returns-in-3
-unfolding codes named payload if◌then◌else◌
+unfolding codes named payload when◌then◌else◌
 returns-in-3 c = rw c.in-3.is (puts_then c.put_named-at.ensures c.put_named.ensures)
 
 pub returns-in_default : goal.returns-in_default
-unfolding payload if◌then◌else◌
+unfolding payload when◌then◌else◌
 returns-in_default c = let r = c.in_default.in_default-own.rest in rw (ne_eqb _ 0 r.0.0.0.1, ne_eqb _ 1 r.0.0.1, ne_eqb _ 2 r.0.1, ne_eqb _ 3 r.1) c.put_decimal.ensures

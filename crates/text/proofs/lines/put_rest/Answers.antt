@@ -1,22 +1,22 @@
 -- `text::lines::put_rest` meets its contract: each kind has its own. Assumes nothing.
 use borrow.Author.Tests.{ne_eqb}
-use Rattle.bits.specs.Reader.{if◌then◌else◌}
+use Rattle.bits.specs.Reader.{when◌then◌else◌}
 use Rattle.text.specs.Dump.{rest}
 use Rattle.text.proofs.Puts.{puts_none}
 use Rattle.text.proofs.lines.put_rest.Goals as goal
 
 pub returns-in-1 : goal.returns-in-1
-unfolding rest if◌then◌else◌
+unfolding rest when◌then◌else◌
 returns-in-1 c = rw c.in-1.is c.put_body.ensures
 
 pub returns-in-4 : goal.returns-in-4
-unfolding rest if◌then◌else◌
+unfolding rest when◌then◌else◌
 returns-in-4 c = rw c.in-4.is c.put_body-in-4.ensures
 
 pub returns-in-3 : goal.returns-in-3
-unfolding rest if◌then◌else◌
+unfolding rest when◌then◌else◌
 returns-in-3 c = rw c.in-3.is c.put_record.ensures
 
 pub returns-in_default : goal.returns-in_default
-unfolding rest if◌then◌else◌
+unfolding rest when◌then◌else◌
 returns-in_default c = let r = c.in_default.in_default-own.rest in rw (ne_eqb _ 1 r.0.0.1, ne_eqb _ 4 r.0.1, ne_eqb _ 3 r.1) (puts_none _ _)
