@@ -19,13 +19,10 @@ ROOT = os.path.dirname(os.path.dirname(os.path.abspath(__file__)))
 ROWS = 150  # in one statement
 
 HEAD = """-- Rows that were made by a generator and answered by the model.
-use mathlib.Core.Path.{_≡_, refl}
-use mathlib.Core.Bool.{_&&_}
-use mathlib.Core.List.{List, [], _∷_, _++_, map}
-use Prim.Native.Nat.{ℕ, _+_, _*_}
-use lib.ListN.{length}
-use Rattle·terms.specs.Refusals.{refusal}
-use Rattle·bitcode.specs.declared.Signature.{Signature}
+use mathlib.Core.Path.{◌≡◌, refl}
+use Rattle.std.specs.Prelude.{List, [], ◌∷◌, map, ℕ}
+use Rattle.terms.specs.Refusals.{refusal}
+use Rattle.bitcode.specs.declared.Signature.{Signature}
 %s
 
 data Reply : Type 0 where
@@ -37,7 +34,7 @@ data Row : Type 0 where
 
 see : Outcome → Reply
 see (denied (refusal n p x y)) = denial n p x y
-see (accepted h xs) = reading h (entries (all-events xs)) (all-store xs)
+see (accepted h xs) = reading h (entries (all_events xs)) (all_store xs)
 
 asked : Row → Reply
 asked (row bs skips n m r) = see (walk bs skips n m)
@@ -47,13 +44,13 @@ reply (row bs skips n m r) = r
 """
 
 STATEMENT = """
-table-%(k)d : List Row
-table-%(k)d =
+table_%(k)d : List Row
+table_%(k)d =
 %(rows)s    []
 
-agree-%(k)d : map asked table-%(k)d ≡ map reply table-%(k)d
-unfolding table-%(k)d asked reply see %(names)s
-agree-%(k)d = refl
+agree_%(k)d : map asked table_%(k)d ≡ map reply table_%(k)d
+unfolding table_%(k)d asked reply see %(names)s
+agree_%(k)d = refl
 """
 
 
@@ -76,11 +73,11 @@ def row(case, answer):
 def definitions():
     """The `use` lines and the names to unfold, as the product's own samples have them."""
     text = open(os.path.join(ROOT, 'crates/walk/specs/Samples.antt')).read()
-    uses = re.findall(r'^use Rattle·\S+\.\{[^}]*\}$', text, re.M)
-    uses = [use.replace('Rattle·walk·specs.specs.', 'Rattle·walk.specs.') for use in uses if 'Refusals' not in use]
+    uses = re.findall(r'^use Rattle\.\S+\.\{[^}]*\}$', text, re.M)
+    uses = [use for use in uses if 'Refusals' not in use and 'Prelude' not in use]
     names = re.search(r'^samples : .*\nunfolding ((?:.*\n)+?)samples = refl', text, re.M).group(1).split()
-    local = {'table', 'asked', 'reply', 'ask', 'saw', 'refused-empty', 'accepted-bare', 'accepted-dump'}
-    outcome = 'use Rattle·walk.specs.Walk.{Outcome, denied, accepted}'
+    local = {'table', 'asked', 'reply', 'ask', 'saw', 'refused_empty', 'accepted_bare', 'accepted_dump'}
+    outcome = 'use Rattle.walk.specs.Walk.{Outcome, denied, accepted}'
     return '\n'.join(uses + [outcome]), ' '.join(name for name in names if name not in local)
 
 
@@ -99,16 +96,13 @@ def evaluate(cases, scratch):
         if name != 'cases':
             ignore = shutil.ignore_patterns('must-fail')
             shutil.copytree(os.path.join(ROOT, 'crates', name), os.path.join(crates, name), ignore=ignore)
-    for part in ('rlib', 'stamp'):  # what is proved already needn't be proved again
-        if os.path.isdir(os.path.join(ROOT, 'target', part)):
-            shutil.copytree(os.path.join(ROOT, 'target', part), os.path.join(scratch, 'target', part))
     for folder in ('src', 'specs'):
         os.makedirs(os.path.join(crates, 'cases', folder))
     open(os.path.join(scratch, 'crates.txt'), 'w').write(''.join('%s: %s\n' % layer for layer in layers.items()))
-    open(os.path.join(crates, 'cases/src/lib.rt'), 'w').write('// No code.\n')
+    open(os.path.join(crates, 'cases/src/lib.rt'), 'w').write('#![tactic(auto)]\n')
     open(os.path.join(crates, 'cases/specs/Lib.antt'), 'w').write('pub mod Cases\n')
     open(os.path.join(crates, 'cases/specs/Cases.antt'), 'w').write(text)
-    run = subprocess.run(['rt', 'check', 'cases'], cwd=scratch, stdout=subprocess.PIPE, stderr=subprocess.STDOUT, text=True)
+    run = subprocess.run(['rt', 'check'], cwd=os.path.join(crates, 'cases'), stdout=subprocess.PIPE, stderr=subprocess.STDOUT, text=True)
     return run.returncode == 0, run.stdout, Counter(answer['status'] for answer in answers)
 
 
