@@ -697,7 +697,7 @@ fn read_info(
     owners: &mut [u64; MAX_SHARED],
 ) -> Step
     requires whole { Whole (tables kinds.old widths.old shapes.old owners.old) }
-    requires shared_le_max_shared { (m.shared ≤ max_shared) × (f.base ≤ m.local) × (m.local ≤ max_local) × (g.at + 8 * n ≤ 18446744073709551615) }
+    requires in_range { (m.shared ≤ max_shared) × (f.base ≤ m.local) × (m.local ≤ max_local) × (g.at + 8 * n ≤ 18446744073709551615) }
     ensures kept { Kept m.shared m.local (tables kinds.old widths.old shapes.old owners.old) (tables kinds.new widths.new shapes.new owners.new) }
     ensures does { (skip own ev ops : List ℕ) → Below m.shared own → Sits (length ev) (length ops) f m → Does s.now skip f m own (tables kinds.old widths.old shapes.old owners.old) (tables kinds.new widths.new shapes.new owners.new) ev ev ops ops (headed_at m 0 w n g) result }
 {
@@ -754,7 +754,7 @@ fn enter_sub_block(
     events: &mut [u64],
 ) -> Step
     requires whole { Whole (tables kinds.old widths.old shapes.old owners.old) }
-    requires events_in_bounds { (m.events ≤ length events.old) × (m.shared ≤ max_shared) × (f.base ≤ m.local) × (m.local ≤ max_local) × Behind f d }
+    requires events_in_range { (m.events ≤ length events.old) × (m.shared ≤ max_shared) × (f.base ≤ m.local) × (m.local ≤ max_local) × Behind f d }
     ensures kept { Kept m.shared m.local (tables kinds.old widths.old shapes.old owners.old) (tables kinds.new widths.new shapes.new owners.new) }
     ensures does { (own ops : List ℕ) → Below m.shared own → Sits (length events.old) (length ops) f m → Does s.now skip.now f m own (tables kinds.old widths.old shapes.old owners.old) (tables kinds.new widths.new shapes.new owners.new) events.old events.new ops ops (numbered_of s.now f m own (tables kinds.old widths.old shapes.old owners.old) (length events.old) (length ops) 1 d) result }
 {
@@ -782,8 +782,8 @@ fn define_local(
     widths: &mut [u64; SLOTS],
     shapes: &mut [u64; ROWS],
 ) -> Step
-    requires kinds_len { (length kinds.old ≡ slot_count) × (length widths.old ≡ slot_count) × (length shapes.old ≡ row_count) }
-    requires shared_le_max_shared { (m.shared ≤ max_shared) × (f.base ≤ m.local) × (m.local ≤ max_local) × Behind f d }
+    requires sized { (length kinds.old ≡ slot_count) × (length widths.old ≡ slot_count) × (length shapes.old ≡ row_count) }
+    requires in_range { (m.shared ≤ max_shared) × (f.base ≤ m.local) × (m.local ≤ max_local) × Behind f d }
     ensures kept { (ow : List ℕ) → Kept m.shared m.local (tables kinds.old widths.old shapes.old ow) (tables kinds.new widths.new shapes.new ow) }
     ensures does { (skip own ev ops ow : List ℕ) → Below m.shared own → Sits (length ev) (length ops) f m → Does s.now skip f m own (tables kinds.old widths.old shapes.old ow) (tables kinds.new widths.new shapes.new ow) ev ev ops ops (numbered_of s.now f m own (tables kinds.old widths.old shapes.old ow) (length ev) (length ops) 2 d) result }
 {
@@ -858,7 +858,7 @@ fn record_abbreviated(
     events: &mut [u64],
     operands: &mut [u64],
 ) -> Step
-    requires kinds_len { (length kinds.now ≡ slot_count) × (length widths.now ≡ slot_count) × (length shapes.now ≡ row_count) }
+    requires sized { (length kinds.now ≡ slot_count) × (length widths.now ≡ slot_count) × (length shapes.now ≡ row_count) }
     requires sits { Sits (length events.old) (length operands.old) f m × Behind f d × (4 ≤ n) × Below m.shared own.now }
     ensures { (skip ow : List ℕ) → Does s.now skip f m own.now (tables kinds.now widths.now shapes.now ow) (tables kinds.now widths.now shapes.now ow) events.old events.new operands.old operands.new (numbered_of s.now f m own.now (tables kinds.now widths.now shapes.now ow) (length events.old) (length operands.old) n d) result }
 {

@@ -11,7 +11,7 @@ returns-in-Refused c =
     let a = c.args in
     let p = c.requires in
     let r = c.read_block_info_block in
-    let z = rw c.in-Refused.is at r.ensures.is in record { kept = kept_less (omega arith) (omega (arith, p.shared_le_max_shared.2)) r.ensures.kept; does = λ skip own ev ops b sits. info_refused a.s.now skip a.f a.m own _ ev ops sits a.w a.n a.g p.whole z ∙ ap refused (sym c.refuse.ensures) }
+    let z = rw c.in-Refused.is at r.ensures.is in record { kept = kept_less (omega arith) (omega (arith, p.in_range.2)) r.ensures.kept; does = λ skip own ev ops b sits. info_refused a.s.now skip a.f a.m own _ ev ops sits a.w a.n a.g p.whole z ∙ ap refused (sym c.refuse.ensures) }
 
 pub returns-in-Shared : goal.returns-in-Shared
 returns-in-Shared c =
@@ -20,6 +20,6 @@ returns-in-Shared c =
     let r = c.read_block_info_block in
     let z = rw c.in-Shared.is at r.ensures.is in
     record {
-      kept = kept_less (omega arith) (omega (arith, p.shared_le_max_shared.2)) r.ensures.kept;
+      kept = kept_less (omega arith) (omega (arith, p.in_range.2)) r.ensures.kept;
       does = λ skip own ev ops b sits. rw c.sharing.ensures (info_added a.s.now skip a.f a.m own _ ev ops sits a.w a.n a.g p.whole b _ _ r.ensures.kept z);
     }

@@ -29,7 +29,7 @@ bounds-shapes-row c =
     let p = c.requires in
     let w = row_found a.f.number a.n (row_at a.own.now a.f.base a.m.local a.n) (sym c.in-At.is ∙ c.look_up.ensures) in
     let i = row_at_in a.own.now a.f.base a.m.local a.n p.sits.3 p.sits.0.shared p.sits.0.local p.sits.0.base w in
-    omega (arith, i, p.kinds_len.2)
+    omega (arith, i, p.sized.2)
 
 pub read_abbreviated-requires : goal.read_abbreviated-requires
 read_abbreviated-requires c =
@@ -37,7 +37,7 @@ read_abbreviated-requires c =
     let p = c.requires in
     let w = row_found a.f.number a.n (row_at a.own.now a.f.base a.m.local a.n) (sym c.in-At.is ∙ c.look_up.ensures) in
     let i = row_at_in a.own.now a.f.base a.m.local a.n p.sits.3 p.sits.0.shared p.sits.0.local p.sits.0.base w in
-    (p.kinds_len.0, p.kinds_len.1, omega (arith, i), p.sits.0.operands)
+    (p.sized.0, p.sized.1, omega (arith, i), p.sits.0.operands)
 
 pub tell_record-requires : goal.tell_record-requires
 tell_record-requires c =

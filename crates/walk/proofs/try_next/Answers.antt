@@ -26,12 +26,12 @@ leave-requires c =
 pub enter_sub_block-requires : goal.enter_sub_block-requires
 enter_sub_block-requires c =
     let p = c.requires in
-    let x = rw c.in-Value.is at c.read_number.ensures in record { whole = p.whole; events_in_bounds = (p.sits.0.events, p.sits.0.shared, p.sits.0.base, p.sits.0.local, x.ends) }
+    let x = rw c.in-Value.is at c.read_number.ensures in record { whole = p.whole; events_in_range = (p.sits.0.events, p.sits.0.shared, p.sits.0.base, p.sits.0.local, x.ends) }
 
 pub define_local-requires : goal.define_local-requires
 define_local-requires c =
     let p = c.requires in
-    let x = rw c.in-Value.is at c.read_number.ensures in record { kinds_len = (p.whole.kinds, p.whole.widths, p.whole.shapes); shared_le_max_shared = (p.sits.0.shared, p.sits.0.base, p.sits.0.local, x.ends) }
+    let x = rw c.in-Value.is at c.read_number.ensures in record { sized = (p.whole.kinds, p.whole.widths, p.whole.shapes); in_range = (p.sits.0.shared, p.sits.0.base, p.sits.0.local, x.ends) }
 
 pub record_plain-requires : goal.record_plain-requires
 record_plain-requires c =
@@ -43,7 +43,7 @@ pub record_abbreviated-requires : goal.record_abbreviated-requires
 record_abbreviated-requires c =
     let p = c.requires in
     let x = rw c.in-Value.is at c.read_number.ensures in
-    let r = c.in_default.in_default-own.rest in record { kinds_len = (p.whole.kinds, p.whole.widths, p.whole.shapes); sits = (p.sits.0, x.ends, omega (arith, r.0.0.0.1, r.0.0.1, r.0.1, r.1), p.sits.1) }
+    let r = c.in_default.in_default-own.rest in record { sized = (p.whole.kinds, p.whole.widths, p.whole.shapes); sits = (p.sits.0, x.ends, omega (arith, r.0.0.0.1, r.0.0.1, r.0.1, r.1), p.sits.1) }
 
 pub returns-in-Refused : goal.returns-in-Refused
 unfolding ends_at
