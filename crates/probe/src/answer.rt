@@ -3,7 +3,7 @@ use bitcode::Parsed;
 use text::lines::put_signature;
 use text::{put_byte, put_bytes, put_decimal, put_named, put_signed};
 
-#[derive(Drop)]
+#[derive(Clone, Copy)]
 pub enum Answer {
     // A number alone.
     Number(u64),

@@ -13,7 +13,7 @@ pub struct Question {
     pub count: usize,
 }
 
-#[derive(Drop)]
+#[derive(Clone, Copy)]
 pub enum Scan {
     Asked(Question),
     Other,

@@ -8,7 +8,7 @@ use text::{front, same_bytes};
 use walk::walk;
 
 // How much of its buffer our answer takes, and whether the list has the same.
-#[derive(Drop)]
+#[derive(Clone, Copy)]
 pub struct Verdict {
     pub fill: usize,
     pub same: bool,

@@ -2,13 +2,13 @@
 use text::scan::{Count, behind_word, hex, skips, word};
 
 // How many numbers are skipped, and how many bytes the input has; both go into lent buffers.
-#[derive(Drop)]
+#[derive(Clone, Copy)]
 pub struct Question {
     pub skips: usize,
     pub bytes: usize,
 }
 
-#[derive(Drop)]
+#[derive(Clone, Copy)]
 pub enum Scan {
     Asked(Question),
     Other,

@@ -1,16 +1,17 @@
 // Standard input line by line, and standard output in pieces, each through a lent buffer.
-ghost use Rattle.std.specs.Prelude.{◌≡◌, ◌+◌, ◌-◌, ◌≤◌, length, IfOk};
+ghost use Rattle.std.specs.Prelude.{◌≡◌, ◌+◌, ◌-◌, ◌≤◌, length, slice_index, EachIndex, IfOk};
 
 use crate::front;
 use crate::scan::find;
-use std::io::{Error, ErrorKind, Read, Result, Write};
+use std::io::{Read, Result, Write};
 
 // The most lines that are taken.
 const MOST_LINES: u64 = 4_294_967_296;
 
 // A buffer of zeros, to lend.
 pub fn zeros<const N: usize>() -> [u8; N]
-    ensures { length result ≡ N }
+    ensures size { length result ≡ N }
+    ensures zero { EachIndex result (λ k. slice_index result k ≡ 0) }
 {
     [0; N]
 }
@@ -54,27 +55,20 @@ fn to_front(text: &mut [u8], from: usize, end: usize) -> usize
     n
 }
 
-// Reads until the buffer is full or the input ends; tells how much of the buffer is filled. A read that a signal interrupts is tried again.
+// Reads until the buffer is full or the input ends; tells how much of the buffer is filled.
 pub fn read_full(input: &mut impl Read, text: &mut [u8]) -> Result<usize>
     ensures end { IfOk result (λ n. n ≤ length text.new) }
     ensures size { length text.new ≡ length text.old }
 {
     let mut n = 0;
-    for _ in 0..u64::MAX {
-        if n == text.len() {
-            return Ok(n);
+    while n < text.len() {
+        let more = input.read(&mut text[n..])?;
+        if more == 0 {
+            break;
         }
-        match input.read(&mut text[n..]) {
-            Ok(0) => return Ok(n),
-            Ok(more) => n += more,
-            Err(e) => {
-                if e.kind() != ErrorKind::Interrupted {
-                    return Err(e);
-                }
-            }
-        }
+        n += more;
     }
-    Err(Error::from(ErrorKind::Interrupted))
+    Ok(n)
 }
 
 // Reads behind the first n bytes; tells where what is read ends.

@@ -13,7 +13,7 @@ pub struct Places {
     pub end: usize,
 }
 
-#[derive(Drop)]
+#[derive(Clone, Copy)]
 pub enum Exchange {
     Asked(Places),
     Other,

@@ -15,7 +15,7 @@ pub struct Question {
     pub bytes: usize,
 }
 
-#[derive(Drop)]
+#[derive(Clone, Copy)]
 pub enum Scan {
     Asked(Question),
     Other,

@@ -23,13 +23,13 @@ loop-i-smaller c = omega arith
 
 pub loop-i-preserved : goal.loop-i-preserved
 loop-i-preserved c =
-    let l = c.loop-i in
+    let turn = c.loop-i in
     let a = c.args in
-    let h : l.i < length l.store = omega (arith, l.invariant.2, c.loop-i-test.true) in (
+    let h : turn.i < length turn.store = omega (arith, turn.invariant.2, c.loop-i-test.true) in (
       omega arith,
       omega arith,
-      length-set l.store l.i 0 ∙ l.invariant.2,
-      clear_more l.store a.store.now a.from l.i l.invariant.0 h l.invariant.3,
+      length-set turn.store turn.i 0 ∙ turn.invariant.2,
+      clear_more turn.store a.store.now a.from turn.i turn.invariant.0 h turn.invariant.3,
     )
 
 pub shape_of-store : goal.shape_of-store
