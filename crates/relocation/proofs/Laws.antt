@@ -1,5 +1,5 @@
--- The laws of the definition, each in one statement: relocation, rooms, what a block leaves behind. Law.antt, Bodies.antt, Readers.antt and Moves.antt prove the first
--- reader by reader; Keep.antt has the forms where nothing moves. Assumes nothing.
+-- The laws of the definition, each in one statement: relocation, rooms, what a block leaves behind. Law.antt, Bodies.antt, Readers.antt and Moves.antt
+-- prove the first reader by reader; Keep.antt has the forms where nothing moves. Assumes nothing.
 use mathlib.Core.Path.{◌≡◌, ap, ◌∙◌}
 use mathlib.Core.List.{List}
 use Prim.Native.Nat.{ℕ, ◌≤◌}
