@@ -7,9 +7,8 @@ ghost use Rattle.text.specs.Text.{Puts};
 ghost use Rattle.dump.specs.Dumped.{too_long, dumped};
 
 use bitcode::Signature;
-use std::io::{Result, Write};
 use terms::INPUT_TOO_LONG;
-use text::feed::{read_full, zeros};
+use text::feed::{STDIN_FILENO, STDOUT_FILENO, zeros};
 use text::front;
 use text::lines::{put_dump, put_status};
 use walk::{Walked, walk};
@@ -61,10 +60,10 @@ fn put_input(input: &[u8], out: &mut [u8]) -> usize
     put_dump(out, 0, w, &events, &operands)
 }
 
-fn main(rt: HostRuntime) -> Result<()> {
+fn main() {
     let mut input = zeros::<INPUT>();
     let mut out = zeros::<ROOM>();
-    let n = read_full(&mut rt.stdin(), &mut input)?;
+    let n = io::read_full(STDIN_FILENO, &mut input);
     let fill = put_input(&input[..n], &mut out);
-    rt.stdout().write_all(front(&out, fill))
+    io::write_all(STDOUT_FILENO, front(&out, fill));
 }

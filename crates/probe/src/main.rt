@@ -22,7 +22,6 @@ use answer::{Answer, put_answer, put_header};
 use bitcode::Signature;
 use cursor::{ask_cursor, ask_scalar, cursor_of};
 use scan::{Question, Scan, question_on};
-use std::io::{Read, Result, Write};
 use text::feed::{Line, flush, made_room, zeros};
 use text::scan::is_asking;
 use text::{front, put_byte, put_bytes, put_hex};
@@ -89,27 +88,21 @@ fn put_line(out: &mut [u8], fill: usize, line: &[u8]) -> usize {
 }
 
 // Answers every line of the input.
-fn answer_all(
-    input: &mut impl Read,
-    output: &mut impl Write,
-    text: &mut [u8],
-    out: &mut [u8],
-) -> Result<()> {
+fn answer_all(text: &mut [u8], out: &mut [u8]) {
     let mut fill = 0;
-    let mut line = Line::first(input, text)?;
+    let mut line = Line::first(text);
     while 0 < line.left {
         let a = line.start;
         let e = line.end;
-        fill = made_room(output, out, fill, MOST)?;
+        fill = made_room(out, fill, MOST);
         fill = put_line(out, fill, &text[a..e]);
-        line = line.behind(input, text)?;
+        line = line.behind(text);
     }
-    flush(output, out, fill)?;
-    Ok(())
+    flush(out, fill);
 }
 
-fn main(rt: HostRuntime) -> Result<()> {
+fn main() {
     let mut text = io::large_buffer();
     let mut out = zeros::<ROOM>();
-    answer_all(&mut rt.stdin(), &mut rt.stdout(), &mut text, &mut out)
+    answer_all(&mut text, &mut out);
 }

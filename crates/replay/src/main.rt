@@ -25,7 +25,6 @@ mod scan;
 
 use hold::held;
 use scan::{Scan, answer_on, question_on};
-use std::io::{Read, Result, Write};
 use text::feed::{Line, flush, made_room, zeros};
 use text::scan::{MOST_SKIPS, is_asking};
 use text::store::numbers_of;
@@ -166,45 +165,34 @@ fn put_tally(out: &mut [u8], t: Tally) -> usize {
 
 // Takes every line of the list; room is made behind each, so that the last line of the output has it too.
 fn take_all(
-    input: &mut impl Read,
-    output: &mut impl Write,
     text: &mut [u8],
     out: &mut [u8],
     ours: &mut [u8],
     events: &mut [u64],
     operands: &mut [u64],
-) -> Result<()> {
+) {
     let mut t = Tally {
         fill: 0,
         answers: 0,
         same: 0,
     };
-    let mut line = Line::first(input, text)?;
+    let mut line = Line::first(text);
     while 0 < line.left {
         let a = line.start;
         let e = line.end;
         t = take_line(out, t, &text[a..e], ours, events, operands);
-        t.fill = made_room(output, out, t.fill, MOST)?;
-        line = line.behind(input, text)?;
+        t.fill = made_room(out, t.fill, MOST);
+        line = line.behind(text);
     }
     let fill = put_tally(out, t);
-    flush(output, out, fill)?;
-    Ok(())
+    flush(out, fill);
 }
 
-fn main(rt: HostRuntime) -> Result<()> {
+fn main() {
     let mut text = io::large_buffer();
     let mut out = zeros::<ROOM>();
     let mut ours = zeros::<OURS>();
     let mut events = [0u64; STORE];
     let mut operands = [0u64; STORE];
-    take_all(
-        &mut rt.stdin(),
-        &mut rt.stdout(),
-        &mut text,
-        &mut out,
-        &mut ours,
-        &mut events,
-        &mut operands,
-    )
+    take_all(&mut text, &mut out, &mut ours, &mut events, &mut operands);
 }

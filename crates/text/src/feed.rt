@@ -1,9 +1,13 @@
 // Standard input line by line, and standard output in pieces, each through a lent buffer.
-ghost use Rattle.std.specs.Prelude.{◌≡◌, ◌+◌, ◌-◌, ◌≤◌, length, slice_index, EachIndex, IfOk};
+ghost use Rattle.std.specs.Prelude.{◌≡◌, ◌+◌, ◌-◌, ◌≤◌, length, slice_index, EachIndex};
 
 use crate::front;
 use crate::scan::find;
-use std::io::{Read, Result, Write};
+
+// Standard input's and standard output's descriptors.
+pub const STDIN_FILENO: i32 = 0;
+
+pub const STDOUT_FILENO: i32 = 1;
 
 // The most lines that are taken.
 const MOST_LINES: u64 = 4_294_967_296;
@@ -55,107 +59,82 @@ fn to_front(text: &mut [u8], from: usize, end: usize) -> usize
     n
 }
 
-// Reads until the buffer is full or the input ends; tells how much of the buffer is filled.
-pub fn read_full(input: &mut impl Read, text: &mut [u8]) -> Result<usize>
-    ensures end { IfOk result (λ n. n ≤ length text.new) }
-    ensures size { length text.new ≡ length text.old }
-{
-    let mut n = 0;
-    while n < text.len() {
-        let more = input.read(&mut text[n..])?;
-        if more == 0 {
-            break;
-        }
-        n += more;
-    }
-    Ok(n)
-}
-
 // Reads behind the first n bytes; tells where what is read ends.
-fn read_behind(input: &mut impl Read, text: &mut [u8], n: usize) -> Result<usize>
+fn read_behind(text: &mut [u8], n: usize) -> usize
     requires { n ≤ length text.old }
-    ensures { IfOk result (λ end. (n ≤ end) × (end ≤ length text.new)) }
+    ensures { (n ≤ result) × (result ≤ length text.new) }
 {
-    let more = read_full(input, &mut text[n..])?;
-    Ok(n + more)
+    n + io::read_full(STDIN_FILENO, &mut text[n..])
 }
 
 // The next line where what is left of the text, from one place to another, has no line end: more is read behind it. What has no line end still is a line,
 // if it is not empty: it fills the buffer, or the input ends.
-fn read_line(
-    input: &mut impl Read,
-    text: &mut [u8],
-    from: usize,
-    end: usize,
-    left: u64,
-) -> Result<Line>
+fn read_line(text: &mut [u8], from: usize, end: usize, left: u64) -> Line
     requires { end ≤ length text.old }
-    ensures { IfOk result (λ r. (r.start ≤ r.end) × (r.end ≤ length text.new) × (r.left ≤ left)) }
+    ensures { (result.start ≤ result.end) × (result.end ≤ length text.new) × (result.left ≤ left) }
 {
     let kept = to_front(text, from, end);
-    let filled = read_behind(input, text, kept)?;
+    let filled = read_behind(text, kept);
     if filled == 0 {
-        return Ok(no_line());
+        return no_line();
     }
     let e = find(&text[0..filled], kept, b'\n');
-    Ok(Line {
+    Line {
         start: 0,
         end: e,
         next: e + 1,
         filled,
         left,
-    })
+    }
 }
 
 impl Line {
     // The first line.
-    pub fn first(input: &mut impl Read, text: &mut [u8]) -> Result<Self>
-        ensures line { IfOk result (λ r. (r.start ≤ r.end) × (r.end ≤ length text.new)) }
-        ensures size { length text.new ≡ length text.old }
+    pub fn first(text: &mut [u8]) -> Self
+        ensures { (result.start ≤ result.end) × (result.end ≤ length text.new) }
     {
-        read_line(input, text, 0, 0, MOST_LINES)
+        read_line(text, 0, 0, MOST_LINES)
     }
 
     // The line behind this one.
-    pub fn behind(self, input: &mut impl Read, text: &mut [u8]) -> Result<Self>
-        ensures line { IfOk result (λ r. (r.start ≤ r.end) × (r.end ≤ length text.new) × (r.left ≤ self.left - 1)) }
-        ensures size { length text.new ≡ length text.old }
+    pub fn behind(self, text: &mut [u8]) -> Self
+        ensures { (result.start ≤ result.end) × (result.end ≤ length text.new) × (result.left ≤ self.left - 1) }
     {
         if self.left < 2 {
-            return Ok(no_line());
+            return no_line();
         }
         let known = front(text, self.filled);
         let n = known.len();
         let e = find(known, self.next, b'\n');
         if e < n {
-            return Ok(Line {
+            return Line {
                 start: self.next,
                 end: e,
                 next: e + 1,
                 filled: n,
                 left: self.left - 1,
-            });
+            };
         }
-        read_line(input, text, self.next, n, self.left - 1)
+        read_line(text, self.next, n, self.left - 1)
     }
 }
 
 // Writes out what is in use of a buffer, and tells what is in use then: nothing.
-pub fn flush(output: &mut impl Write, out: &[u8], fill: usize) -> Result<usize>
-    ensures { IfOk result (λ n. n ≡ 0) }
+pub fn flush(out: &[u8], fill: usize) -> usize
+    ensures { result ≡ 0 }
 {
-    output.write_all(front(out, fill))?;
-    Ok(0)
+    io::write_all(STDOUT_FILENO, front(out, fill));
+    0
 }
 
 // Writes a buffer out that has no room for so much more, and tells what is in use then.
-pub fn made_room(output: &mut impl Write, out: &[u8], fill: usize, more: usize) -> Result<usize>
-    ensures { IfOk result (λ n. more ≤ length out.now → n + more ≤ length out.now) }
+pub fn made_room(out: &[u8], fill: usize, more: usize) -> usize
+    ensures { more ≤ length out.now → result + more ≤ length out.now }
 {
     if fill <= out.len() {
         if more <= out.len() - fill {
-            return Ok(fill);
+            return fill;
         }
     }
-    flush(output, out, fill)
+    flush(out, fill)
 }

@@ -31,7 +31,6 @@ ghost use Rattle.std.specs.Prelude.{◌≤◌};
 use exchanged::is_exchange;
 use judge::put_exchange;
 use scan::{Question, STORE, Scan, question_on};
-use std::io::{Read, Result, Write};
 use terms::EVENT_SIZE;
 use text::feed::{Line, flush, made_room, zeros};
 use text::lines::put_dump;
@@ -177,38 +176,23 @@ fn put_line(
 }
 
 // Answers every line of the input.
-fn answer_all(
-    input: &mut impl Read,
-    output: &mut impl Write,
-    text: &mut [u8],
-    out: &mut [u8],
-    events: &mut [u64],
-    operands: &mut [u64],
-) -> Result<()> {
+fn answer_all(text: &mut [u8], out: &mut [u8], events: &mut [u64], operands: &mut [u64]) {
     let mut fill = 0;
-    let mut line = Line::first(input, text)?;
+    let mut line = Line::first(text);
     while 0 < line.left {
         let a = line.start;
         let e = line.end;
-        fill = made_room(output, out, fill, MOST)?;
+        fill = made_room(out, fill, MOST);
         fill = put_line(out, fill, &text[a..e], events, operands);
-        line = line.behind(input, text)?;
+        line = line.behind(text);
     }
-    flush(output, out, fill)?;
-    Ok(())
+    flush(out, fill);
 }
 
-fn main(rt: HostRuntime) -> Result<()> {
+fn main() {
     let mut text = io::large_buffer();
     let mut out = zeros::<ROOM>();
     let mut events = [0u64; STORE];
     let mut operands = [0u64; STORE];
-    answer_all(
-        &mut rt.stdin(),
-        &mut rt.stdout(),
-        &mut text,
-        &mut out,
-        &mut events,
-        &mut operands,
-    )
+    answer_all(&mut text, &mut out, &mut events, &mut operands);
 }
