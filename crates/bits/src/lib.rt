@@ -2,53 +2,18 @@
 // Each call is total: for any place, any end and any slice it gives its answer or a numbered refusal, and it asks nothing of its caller.
 #![tactic(auto)]
 
-ghost use Rattle.std.specs.Prelude.{◌≡◌, ◌+◌, ◌*◌, ◌/◌, ◌%◌, ◌^◌, ◌≤◌, ◌<◌, min, length, get_or};
+ghost use Rattle.std.specs.Prelude.{◌≡◌, ◌+◌, ◌*◌, ◌/◌, ◌%◌, ◌^◌, ◌≤◌, ◌<◌, length, get_or};
 ghost use Rattle.bits.specs.Word.{word64};
 ghost use Rattle.bits.specs.Bits.{field, limit, read, peek, align, vbr, skip, next_bytes, bits_left, ends_at, signed_of};
 ghost use Rattle.bits.specs.Told.{Gives, of_read, of_peek, of_move, Parts};
 
-use terms::{ALIGNMENT, BUFFER_OVERFLOW, MAX_INPUT, VBR_OVERFLOW};
+use terms::{MAX_INPUT, Reason};
 
 // A place in a stream, in bits, and the end of what may be read, in bytes.
 #[derive(Clone, Copy)]
 pub struct Cursor {
     pub at: u64,
     pub end: u64,
-}
-
-// A number and the cursor behind it, or the refusal's number.
-#[derive(Clone, Copy)]
-pub enum Read {
-    Value(u64, Cursor),
-    Refused(u64),
-}
-
-// A number that stays unread.
-#[derive(Clone, Copy)]
-pub enum Peek {
-    Seen(u64),
-    Unseen(u64),
-}
-
-// The moved cursor.
-#[derive(Clone, Copy)]
-pub enum Move {
-    To(Cursor),
-    Stays(u64),
-}
-
-// A cursor for a part of the stream, and the one behind that part.
-#[derive(Clone, Copy)]
-pub enum Take {
-    Taken(Cursor, Cursor),
-    Untaken(u64),
-}
-
-// The lesser of two numbers.
-fn least(a: u64, b: u64) -> u64
-    ensures { result ≡ min a b }
-{
-    if a < b { a } else { b }
 }
 
 // Eight bytes as one number, the first one lowest: LLVM makes one load of them.
@@ -176,7 +141,7 @@ impl Cursor {
     fn length(self, s: &[u8]) -> u64
         ensures { (8 * result ≡ limit s.now self.end) × (result ≤ 2 ^ 24) × (result ≤ length s.now) }
     {
-        least(self.end, least(s.len() as u64, MAX_INPUT))
+        self.end.min((s.len() as u64).min(MAX_INPUT))
     }
 
     // The same in bits.
@@ -187,107 +152,102 @@ impl Cursor {
     }
 
     // The next n bits, 1 to 64 of them.
-    pub fn read(self, s: &[u8], n: u64) -> Read
+    pub fn read(self, s: &[u8], n: u64) -> Result<(u64, Cursor), Reason>
         ensures { Gives self s.now (read n) (of_read result) }
     {
         if n < 1 {
-            return Read::Refused(VBR_OVERFLOW);
+            return Err(Reason::VbrOverflow);
         }
         if 64 < n {
-            return Read::Refused(VBR_OVERFLOW);
+            return Err(Reason::VbrOverflow);
         }
         let at = self.at;
-        let end = self.end;
         let bits = self.bits(s);
         if bits < n {
-            return Read::Refused(BUFFER_OVERFLOW);
+            return Err(Reason::BufferOverflow);
         }
         if bits - n < at {
-            return Read::Refused(BUFFER_OVERFLOW);
+            return Err(Reason::BufferOverflow);
         }
-        let v = field_at(s, at, n);
-        Read::Value(v, Cursor { at: at + n, end })
+        Ok((field_at(s, at, n), Cursor { at: at + n, ..self }))
     }
 
     // The next n bits, which stay unread.
-    pub fn peek(self, s: &[u8], n: u64) -> Peek
+    pub fn peek(self, s: &[u8], n: u64) -> Result<u64, Reason>
         ensures { Gives self s.now (peek n) (of_peek self result) }
     {
         match self.read(s, n) {
-            Read::Value(v, _) => Peek::Seen(v),
-            Read::Refused(_) => Peek::Unseen(BUFFER_OVERFLOW),
+            Ok((v, _)) => Ok(v),
+            Err(_) => Err(Reason::BufferOverflow),
         }
     }
 
     // To the next multiple of 32 bits; no move where the place is one.
-    pub fn align32(self, s: &[u8]) -> Move
+    pub fn align32(self, s: &[u8]) -> Result<Cursor, Reason>
         ensures { Gives self s.now align (of_move result) }
     {
         let at = self.at;
-        let end = self.end;
         let bits = self.bits(s);
         if bits < at {
-            return Move::Stays(BUFFER_OVERFLOW);
+            return Err(Reason::BufferOverflow);
         }
         let next = (at + 31) / 32 * 32;
         if bits < next {
-            return Move::Stays(BUFFER_OVERFLOW);
+            return Err(Reason::BufferOverflow);
         }
-        Move::To(Cursor { at: next, end })
+        Ok(Cursor { at: next, ..self })
     }
 
     // A VBR number of chunks of w bits, 1 to 32 of them: `unit` is a chunk's top bit, which says that another chunk follows.
-    pub fn read_vbr(self, s: &[u8], w: u64) -> Read
+    pub fn read_vbr(self, s: &[u8], w: u64) -> Result<(u64, Cursor), Reason>
         ensures { Gives self s.now (vbr w) (of_read result) }
     {
         if w < 1 {
-            return Read::Refused(VBR_OVERFLOW);
+            return Err(Reason::VbrOverflow);
         }
         if 32 < w {
-            return Read::Refused(VBR_OVERFLOW);
+            return Err(Reason::VbrOverflow);
         }
         let unit = power(w - 1);
         let mut c = self;
         let mut shift: u64 = 0;
         let mut sum: u64 = 0;
-        let answer = loop {
+        loop {
             match c.read(s, w) {
-                Read::Refused(e) => break Read::Refused(e),
-                Read::Value(v, d) => {
+                Err(e) => break Err(e),
+                Ok((v, d)) => {
                     if 64 <= shift {
-                        break Read::Refused(VBR_OVERFLOW);
+                        break Err(Reason::VbrOverflow);
                     }
-                    sum = sum + ((v % unit) << shift);
+                    sum += (v % unit) << shift;
                     if v < unit {
-                        break Read::Value(sum, d);
+                        break Ok((sum, d));
                     }
-                    shift = shift + (w - 1);
+                    shift += w - 1;
                     c = d;
                 }
             }
-        };
-        answer
+        }
     }
 
     // Over n bytes, from a byte's first bit on.
-    pub fn skip_bytes(self, s: &[u8], n: u64) -> Move
+    pub fn skip_bytes(self, s: &[u8], n: u64) -> Result<Cursor, Reason>
         ensures { Gives self s.now (skip n) (of_move result) }
     {
         let at = self.at;
-        let end = self.end;
         if at % 8 != 0 {
-            return Move::Stays(ALIGNMENT);
+            return Err(Reason::Alignment);
         }
         let length = self.length(s);
         if length < n {
-            return Move::Stays(BUFFER_OVERFLOW);
+            return Err(Reason::BufferOverflow);
         }
         if length - n < at / 8 {
-            return Move::Stays(BUFFER_OVERFLOW);
+            return Err(Reason::BufferOverflow);
         }
-        Move::To(Cursor {
+        Ok(Cursor {
             at: at + 8 * n,
-            end,
+            ..self
         })
     }
 
@@ -297,8 +257,8 @@ impl Cursor {
     {
         let from = self.at / 8;
         match self.skip_bytes(s, n) {
-            Move::Stays(_) => &s[0..0],
-            Move::To(_) => {
+            Err(_) => &s[0..0],
+            Ok(_) => {
                 let a = from as usize;
                 let e = (from + n) as usize;
                 &s[a..e]
@@ -307,41 +267,33 @@ impl Cursor {
     }
 
     // A cursor for the next n bytes, from a 32-bit boundary on, and the one behind them. Places stay those of the whole stream.
-    pub fn take_slice(self, s: &[u8], n: u64) -> Take
+    pub fn take_slice(self, s: &[u8], n: u64) -> Result<(Cursor, Cursor), Reason>
         ensures { Parts self s.now n result }
     {
         let at = self.at;
         if at % 32 != 0 {
-            return Take::Untaken(ALIGNMENT);
+            return Err(Reason::Alignment);
         }
-        match self.skip_bytes(s, n) {
-            Move::Stays(e) => Take::Untaken(e),
-            Move::To(d) => Take::Taken(
-                Cursor {
-                    at,
-                    end: at / 8 + n,
-                },
-                d,
-            ),
-        }
+        let behind = self.skip_bytes(s, n)?;
+        let part = Cursor {
+            at,
+            end: at / 8 + n,
+        };
+        Ok((part, behind))
     }
 
     // How many bits are left.
     pub fn unconsumed_bit_len(self, s: &[u8]) -> u64
         ensures { result ≡ bits_left s.now self.end self.at }
     {
-        let at = self.at;
-        let bits = self.bits(s);
-        if at < bits { bits - at } else { 0 }
+        self.bits(s).saturating_sub(self.at)
     }
 
     // Whether no bits are left.
     pub fn is_at_end(self, s: &[u8]) -> bool
         ensures { result ≡ ends_at s.now self.end self.at }
     {
-        let at = self.at;
-        let bits = self.bits(s);
-        bits <= at
+        self.bits(s) <= self.at
     }
 }
 

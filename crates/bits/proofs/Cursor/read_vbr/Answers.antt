@@ -23,17 +23,17 @@ overflow_add-sum c = search (sum_fits, rules)
 
 pub loop-e-smaller : goal.loop-e-smaller
 loop-e-smaller c =
-    let g = rw c.in-Value.is at c.read.ensures in
+    let g = rw c.in-Ok.is at c.read.ensures in
     ahead_less _ _ _ (read_ahead _ _ _ _ _ _ g.gives) g.ends
 
 pub loop-e-preserved : goal.loop-e-preserved
-loop-e-preserved c = going_more c.loop-e.invariant (rw c.in-Value.is at c.read.ensures) (cc) (omega arith) (omega arith)
+loop-e-preserved c = going_more c.loop-e.invariant (rw c.in-Ok.is at c.read.ensures) (cc) (omega arith) (omega arith)
 
-pub returns-in-Refused : goal.returns-in-Refused
-returns-in-Refused c = going_refused c.loop-e.invariant (rw c.in-Refused.is at c.read.ensures)
+pub returns-in-Err : goal.returns-in-Err
+returns-in-Err c = going_refused c.loop-e.invariant (rw c.in-Err.is at c.read.ensures)
 
 pub returns-then-shift-ge64 : goal.returns-then-shift-ge64
-returns-then-shift-ge64 c = going_over c.loop-e.invariant (rw c.in-Value.is at c.read.ensures) c.if-shift-ge64.true
+returns-then-shift-ge64 c = going_over c.loop-e.invariant (rw c.in-Ok.is at c.read.ensures) c.if-shift-ge64.true
 
 pub returns-then-v-unit : goal.returns-then-v-unit
-returns-then-v-unit c = going_last c.loop-e.invariant (rw c.in-Value.is at c.read.ensures) (cc) (omega arith) (omega arith)
+returns-then-v-unit c = going_last c.loop-e.invariant (rw c.in-Ok.is at c.read.ensures) (cc) (omega arith) (omega arith)
