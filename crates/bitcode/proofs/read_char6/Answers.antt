@@ -3,10 +3,10 @@ use Rattle.bits.proofs.Steps.{on, off, ends}
 use Rattle.bitcode.specs.Scalar.{value}
 use Rattle.bitcode.proofs.read_char6.Goals as goal
 
-pub returns-in-Refused : goal.returns-in-Refused
+pub returns-in-Err : goal.returns-in-Err
 unfolding value
-returns-in-Refused c = off _ (rw c.in-Refused.is at c.read.ensures)
+returns-in-Err c = off _ (rw c.in-Err.is at c.read.ensures)
 
-pub returns-in-Value : goal.returns-in-Value
+pub returns-in-Ok : goal.returns-in-Ok
 unfolding value
-returns-in-Value c = on _ (rw c.in-Value.is at c.read.ensures) (rw c.letter.ensures ends)
+returns-in-Ok c = on _ (rw c.in-Ok.is at c.read.ensures) (rw c.letter.ensures ends)

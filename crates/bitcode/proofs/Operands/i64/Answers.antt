@@ -6,10 +6,10 @@ use Rattle.bits.proofs.Steps.{on, off, ends}
 use Rattle.bitcode.specs.Operands.{next_signed}
 use Rattle.bitcode.proofs.Operands.i64.Goals as goal
 
-pub returns-in-Refused : goal.returns-in-Refused
+pub returns-in-Err : goal.returns-in-Err
 unfolding next_signed
-returns-in-Refused c = off _ (rw c.in-Refused.is at c.u64.ensures)
+returns-in-Err c = off _ (rw c.in-Err.is at c.u64.ensures)
 
-pub returns-in-Value : goal.returns-in-Value
+pub returns-in-Ok : goal.returns-in-Ok
 unfolding next_signed
-returns-in-Value c = on _ (rw c.in-Value.is at c.u64.ensures) (rw (to_z-of_z w64 c.signed.result (record { sfits = c.signed.type_inv }) ∙ c.signed.ensures) ends)
+returns-in-Ok c = on _ (rw c.in-Ok.is at c.u64.ensures) (rw (to_z-of_z w64 c.signed.result (record { sfits = c.signed.type_inv }) ∙ c.signed.ensures) ends)

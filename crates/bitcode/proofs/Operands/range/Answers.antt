@@ -9,21 +9,21 @@ use Rattle.bitcode.proofs.Operands.range.Goals as goal
 pub returns-then-start-n : goal.returns-then-start-n
 unfolding next_range
 returns-then-start-n c =
-    let end = c.in-Value.start + c.in-Value-u64.n in
-    then_off _ (rw c.in-Value.is at c.u64.ensures)
-    (then_off _ (rw c.in-Value-u64.is at c.u64-in-Value.ensures) (fail _ (le-ltb end (2 ^ 64) (omega arith))))
+    let end = c.in-Ok.start + c.in-Ok-u64.n in
+    then_off _ (rw c.in-Ok.is at c.u64.ensures)
+    (then_off _ (rw c.in-Ok-u64.is at c.u64-in-Ok.ensures) (fail _ (le-ltb end (2 ^ 64) (omega arith))))
 
-pub returns-in-Refused : goal.returns-in-Refused
+pub returns-in-Err : goal.returns-in-Err
 unfolding next_range
-returns-in-Refused c = off _ (rw c.in-Refused.is at c.u64.ensures)
+returns-in-Err c = off _ (rw c.in-Err.is at c.u64.ensures)
 
-pub returns-in-Refused-u64 : goal.returns-in-Refused-u64
+pub returns-in-Err-u64 : goal.returns-in-Err-u64
 unfolding next_range
-returns-in-Refused-u64 c = then_off _ (rw c.in-Value.is at c.u64.ensures) (off _ (rw c.in-Refused-u64.is at c.u64-in-Value.ensures))
+returns-in-Err-u64 c = then_off _ (rw c.in-Ok.is at c.u64.ensures) (off _ (rw c.in-Err-u64.is at c.u64-in-Ok.ensures))
 
 pub returns-else-start-n : goal.returns-else-start-n
 unfolding next_range
 returns-else-start-n c =
-    let end = c.in-Value.start + c.in-Value-u64.n in
-    on _ (rw c.in-Value.is at c.u64.ensures)
-    (on _ (rw c.in-Value-u64.is at c.u64-in-Value.ensures) (pass _ _ (lt-ltb end (2 ^ 64) (omega arith)) ends))
+    let end = c.in-Ok.start + c.in-Ok-u64.n in
+    on _ (rw c.in-Ok.is at c.u64.ensures)
+    (on _ (rw c.in-Ok-u64.is at c.u64-in-Ok.ensures) (pass _ _ (lt-ltb end (2 ^ 64) (omega arith)) ends))
