@@ -103,9 +103,10 @@ pub record Outside (from to : ℕ) (xs ys : List ℕ) : Type 0 where
   pub many : length ys ≡ length xs
   pub same : (j : ℕ) → (from ≤ j → j < to → ⊥) → get_or ys j 0 ≡ get_or xs j 0
 
--- of the kinds and the widths: all but n slots from `from` on
-abbrev pub KeptBut : ℕ → ℕ → List ℕ → List ℕ → List ℕ → List ℕ → Type 0
-KeptBut from n kinds kinds' widths widths' = Outside from (from + n) kinds kinds' × Outside from (from + n) widths widths'
+-- of the slots, their kinds ks and widths ws: all but the n slots from `from` on
+pub record KeptBut (from n : ℕ) (ks ks' ws ws' : List ℕ) : Type 0 where
+  pub kinds : Outside from (from + n) ks ks'
+  pub widths : Outside from (from + n) ws ws'
 
 -- and of all tables: the shared rows below `have` and the local rows below `local` hold what they held
 pub record Kept (have local : ℕ) (t t' : Tables) : Type 0 where

@@ -10,14 +10,14 @@ pub returns-then-count-ne1 : goal.returns-then-count-ne1
 unfolding set_bid
 returns-then-count-ne1 c = fail _ (ne_eqb _ 1 c.if-count-ne1.true)
 
-pub returns-then-b-ge4294967296 : goal.returns-then-b-ge4294967296
+pub returns-in-Ok : goal.returns-in-Ok
 unfolding set_bid
-returns-then-b-ge4294967296 c = pass_off _ _ (eq-eqb c.args.count 1 (omega arith)) (then_off _ (readable_at _ (rw c.in-Value.is at c.read_vbr.ensures)) (fail _ (le-ltb c.in-Value.b 4294967296 c.if-b-ge4294967296.true)))
+returns-in-Ok c = ?
 
-pub returns-in-Refused : goal.returns-in-Refused
+pub returns-in_default : goal.returns-in_default
 unfolding set_bid
-returns-in-Refused c = pass_off _ _ (eq-eqb c.args.count 1 (omega arith)) (off _ (readable_off _ (rw c.in-Refused.is at c.read_vbr.ensures)))
+returns-in_default c = ?
 
-pub returns-else-b-ge4294967296 : goal.returns-else-b-ge4294967296
+pub returns-in_default-2 : goal.returns-in_default-2
 unfolding set_bid
-returns-else-b-ge4294967296 c = pass _ _ (eq-eqb c.args.count 1 (omega arith)) (on _ (readable_at _ (rw c.in-Value.is at c.read_vbr.ensures)) (pass _ _ (lt-ltb c.in-Value.b 4294967296 (omega arith)) ends))
+returns-in_default-2 c = ?
