@@ -10,9 +10,10 @@ use lib.ListN.{length, set, length-set}
 use lib.Seq.{get_or-set_same, get_or-set_other}
 use lib.Dec.{leb}
 use borrow.Author.Tests.{lt-ltb, le-ltb, le-leb, lt-leb, leb-true}
-use Rattle.std.specs.Prelude.{Option as RustOption, Some, None, Result, Ok, Err}
+use Rattle.std.specs.Prelude.{Option as RustOption, Some, None, Result, Ok, Err, ok_or, MatchResult, IsErrAnd}
 use Rattle.terms.specs.Refusals.{No, no, no_of, Refusal, refusal, refusal_of, at_bit, value_overflow, missing_set_bid, no_abbreviation_room}
 use Rattle.terms.specs.declared.Reason.{Reason}
+use Rattle.terms.specs.declared.Reason.TheVariants.{MissingSetBid}
 use Rattle.terms.specs.declared.Refused.{Refused}
 use Rattle.bits.specs.declared.Cursor.{Cursor}
 use Rattle.bits.specs.Reader.{Reader, Answer, got, refused, onward, ◌>>=◌, give, stop, require, when◌then◌else◌, here, turns, at_place, placed}
@@ -24,7 +25,8 @@ use Rattle.bits.proofs.Vbr.{read_ahead}
 use Rattle.bits.proofs.Answers.{when_got, places}
 use Rattle.abbrev.specs.Abbrev.{Abbrev, define, number_of}
 use Rattle.abbrev.specs.BlockInfo.{Shared, shared, every, or_else, readable, chosen, info_definition, letters, InfoItem as Item, info_end, info_adds, info_now, info_numbered, info_item, info_on, info}
-use Rattle.abbrev.specs.Tables.{row_size, local_rows, row_count, shared_slots, Tables, tables, abbrev_of, shareds, KeptBut, Kept, Whole, define_row, InfoDoes, info_all, shared_fit, info_block, Adds, InfoIs}
+use Rattle.abbrev.specs.Tables.{row_size, local_rows, row_count, shared_slots, Tables, tables, abbrev_of, shareds, KeptBut, Kept, Whole, define_row, of_chosen, InfoDoes, info_all, shared_fit, info_block, Adds, InfoIs}
+use Rattle.abbrev.specs.declared.BlockNumber.{BlockNumber}
 use Rattle.abbrev.specs.declared.InfoItem.{InfoItem}
 use Rattle.abbrev.specs.declared.InfoItem.TheVariants as S
 use Rattle.abbrev.proofs.Answers.{info_items}
@@ -168,25 +170,48 @@ module _ (row kinds widths : ℕ) (i : row < row_count) (j : row_size * row + ro
   pub undefined_in : {r : No} → Off (define_row row kinds widths) s e p r → Off define s e p r
   undefined_in o = record { why = sym (define_in row kinds widths s e p i j k) ∙ o.why }
 
-module _ {s : List ℕ} {e p : ℕ} where
+-- the block that is chosen, if any, as `ok_or` gives it
+module _ {s : List ℕ} (c : Cursor) where
+  pub choice_at : (o : RustOption BlockNumber) {b : BlockNumber} → Ok b ≡ ok_or o MissingSetBid → At (chosen (of_chosen o)) s c.end c.at b.0 c
+  unfolding chosen
+  choice_at None h = cc
+  choice_at (Some a) {b} h = let i : a ≡ b = cc in rw i ends
+
+  pub choice_off : (o : RustOption BlockNumber) {r : Reason} → Err r ≡ ok_or o MissingSetBid → Off (chosen (of_chosen o)) s c.end c.at (no_of r)
+  unfolding chosen stop
+  choice_off None {r} h = let i : r ≡ MissingSetBid = cc in rw i record { why = refl }
+  choice_off (Some b) h = cc
+
+module _ {s : List ℕ} {c : Cursor} (now : Option ℕ) (have : ℕ) where
   -- no block is chosen
-  pub definition_unchosen : (have : ℕ) → Off (info_numbered every nothing have 2) s e p missing_set_bid
-  unfolding info_numbered when◌then◌else◌ info_definition chosen stop
-  definition_unchosen have = off _ (off _ record { why = refl })
+  pub definition_unchosen : {r : No} → Off (chosen now) s c.end c.at r → Off (info_numbered every now have 2) s c.end c.at r
+  unfolding info_numbered when◌then◌else◌ info_definition
+  definition_unchosen o = off _ (off _ o)
 
-  module _ (b have : ℕ) where
-    pub definition_off : {r : No} → Off define s e p r → Off (info_numbered every (some b) have 2) s e p r
-    unfolding info_numbered when◌then◌else◌ info_definition chosen
-    definition_off o = off _ (then_off _ (ends {d = record { at = p; end = e }}) (off _ o))
+  module _ {b : ℕ} (x : At (chosen now) s c.end c.at b c) where
+    pub definition_off : {r : No} → Off define s c.end c.at r → Off (info_numbered every now have 2) s c.end c.at r
+    unfolding info_numbered when◌then◌else◌ info_definition
+    definition_off o = off _ (then_off _ x (off _ o))
 
-    module _ {a : Abbrev} {d : Cursor} (x : At define s e p a d) where
-      pub definition_full : 32 ≤ have → Off (info_numbered every (some b) have 2) s e p no_abbreviation_room
-      unfolding info_numbered when◌then◌else◌ info_definition chosen
-      definition_full l = off _ (then_off _ (ends {d = record { at = p; end = e }}) (then_off _ x (fail _ (le-ltb have 32 l))))
+    module _ {a : Abbrev} {d : Cursor} (y : At define s c.end c.at a d) where
+      pub definition_full : 32 ≤ have → Off (info_numbered every now have 2) s c.end c.at no_abbreviation_room
+      unfolding info_numbered when◌then◌else◌ info_definition
+      definition_full l = off _ (then_off _ x (then_off _ y (fail _ (le-ltb have 32 l))))
 
-      pub definition_adds : have < 32 → At (info_numbered every (some b) have 2) s e p (info_adds (shared b a)) d
-      unfolding info_numbered when◌then◌else◌ info_definition chosen
-      definition_adds l = on _ (on _ (ends {d = record { at = p; end = e }}) (on _ x (pass _ _ (lt-ltb have 32 l) ends))) ends
+      pub definition_adds : have < 32 → At (info_numbered every now have 2) s c.end c.at (info_adds (shared b a)) d
+      unfolding info_numbered when◌then◌else◌ info_definition
+      definition_adds l = on _ (on _ x (on _ y (pass _ _ (lt-ltb have 32 l) ends))) ends
+
+-- what `map_err` says of the answer in front of it: Q is what the closure promises, and P what it is taken for
+module _ {A E F : Type 0} (Q : E → F → Type 0) where
+  pub ok_before : (r : Result A E) {r' : Result A F} {a : A} → MatchResult r (λ x. r' ≡ Ok x) (λ x. IsErrAnd r' (Q x)) → r' ≡ Ok a → r ≡ Ok a
+  ok_before (Ok x) {r'} {a} h i = let j : x ≡ a = cc in ap Ok j
+  ok_before (Err x) h i = absurd (rw i at h)
+
+  pub err_before : (P : E → F → Type 0) → ((x : E) (y : F) → Q x y → P x y) → (r : Result A E) {r' : Result A F} {y : F}
+      → MatchResult r (λ x. r' ≡ Ok x) (λ x. IsErrAnd r' (Q x)) → r' ≡ Err y → (x : E) × (r ≡ Err x) × P x y
+  err_before P f (Ok x) h i = cc
+  err_before P f (Err x) {r'} {y} h i = (x, refl, f x y (rw i at h))
 
 -- an item is what its number says
 pub item_does : {s : List ℕ} {c d : Cursor} (w : ℕ) {n : ℕ} (now : Option ℕ) (have : ℕ) (kinds widths : List ℕ) (r : Result (InfoItem × Cursor) Reason)

@@ -402,7 +402,9 @@ fn read_info_items(
     let mut chosen = None;
     loop {
         let at = c.at;
-        let (item, d) = read_info_item(c, s, width, chosen, kinds, widths, have).map_err(|e| e.at(at))?;
+        let (item, d) = read_info_item(c, s, width, chosen, kinds, widths, have).map_err(|e| e.at(
+            at,
+        ))?;
         match item {
             InfoItem::End => return Ok(have),
             InfoItem::Adds(block, shape) => {
