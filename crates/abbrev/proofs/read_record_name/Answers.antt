@@ -1,29 +1,42 @@
 -- `abbrev::read_record_name` meets its contract: the code that the name is for, then its letters. Assumes nothing.
-use mathlib.Core.Path.{refl}
 use native.Mathlib.Omega.{arith}
 use borrow.Author.Tests.{lt-ltb, le-ltb}
-use Rattle.bits.specs.Reader.{stop}
-use Rattle.bits.proofs.Steps.{on, then_off, off, ends, pass, pass_off, fail}
-use Rattle.abbrev.specs.BlockInfo.{chosen, record_name}
-use Rattle.abbrev.proofs.Infos.{readable_at, readable_off}
+use Rattle.bits.proofs.Steps.{on, then_off, off, ends, pass, pass_off, fail, handed_on}
+use Rattle.abbrev.specs.BlockInfo.{record_name}
+use Rattle.abbrev.specs.Tables.{of_named}
+use Rattle.abbrev.proofs.Infos.{choice_at, choice_off, readable_at, readable_off}
 use Rattle.abbrev.proofs.read_record_name.Goals as goal
 
+pub returns-in_err-ok_or : goal.returns-in_err-ok_or
+unfolding record_name
+returns-in_err-ok_or c =
+    let a = c.args in
+    handed_on of_named _ _ _ _ _ c.from_residual.ensures.1 (off _ (choice_off a.c a.chosen c.in_err-ok_or.ensures.value))
+
 pub returns-then-count-eq0 : goal.returns-then-count-eq0
-unfolding record_name chosen stop
-returns-then-count-eq0 c = rw c.in-Block.is (then_off _ (ends {d = c.args.c}) (fail _ (le-ltb 0 c.args.count (omega arith))))
+unfolding record_name
+returns-then-count-eq0 c =
+    let a = c.args in
+    then_off _ (choice_at a.c a.chosen c.in_ok-ok_or.ensures.value) (fail _ (le-ltb 0 a.count (omega arith)))
 
-pub returns-in-Nothing : goal.returns-in-Nothing
-unfolding record_name chosen stop
-returns-in-Nothing c = rw c.in-Nothing.is (off _ record { why = refl })
+pub returns-in_default : goal.returns-in_default
+unfolding record_name
+returns-in_default c =
+    let a = c.args in
+    then_off _ (choice_at a.c a.chosen c.in_ok-ok_or.ensures.value)
+    (pass_off _ _ (lt-ltb 0 a.count (omega arith)) (off _ (readable_off _ (rw c.in_default.is at c.read_vbr.ensures))))
 
-pub returns-in-Refused : goal.returns-in-Refused
-unfolding record_name chosen stop
-returns-in-Refused c = rw c.in-Block.is (then_off _ (ends {d = c.args.c}) (pass_off _ _ (lt-ltb 0 c.args.count (omega arith)) (off _ (readable_off _ (rw c.in-Refused.is at c.read_vbr.ensures)))))
+pub returns-in_err-e : goal.returns-in_err-e
+unfolding record_name
+returns-in_err-e c =
+    let a = c.args in
+    handed_on of_named _ _ _ _ _ c.from_residual-in_err-e.ensures.1
+    (then_off _ (choice_at a.c a.chosen c.in_ok-ok_or.ensures.value)
+    (pass_off _ _ (lt-ltb 0 a.count (omega arith)) (then_off _ (readable_at _ (c.in-Ok.ensures)) (off _ c.in_err-e.ensures))))
 
-pub returns-in-Refused-read_letters : goal.returns-in-Refused-read_letters
-unfolding record_name chosen stop
-returns-in-Refused-read_letters c = rw c.in-Block.is (then_off _ (ends {d = c.args.c}) (pass_off _ _ (lt-ltb 0 c.args.count (omega arith)) (then_off _ (readable_at _ (rw c.in-Value.is at c.read_vbr.ensures)) (off _ (rw c.in-Refused-read_letters.is at c.read_letters.ensures)))))
-
-pub returns-in-Behind : goal.returns-in-Behind
-unfolding record_name chosen stop
-returns-in-Behind c = rw c.in-Block.is (on _ (ends {d = c.args.c}) (pass _ _ (lt-ltb 0 c.args.count (omega arith)) (on _ (readable_at _ (rw c.in-Value.is at c.read_vbr.ensures)) (on _ (rw c.in-Behind.is at c.read_letters.ensures) ends))))
+pub returns : goal.returns
+unfolding record_name
+returns c =
+    let a = c.args in
+    on _ (choice_at a.c a.chosen c.in_ok-ok_or.ensures.value)
+    (pass _ _ (lt-ltb 0 a.count (omega arith)) (on _ (readable_at _ (c.in-Ok.ensures)) (on _ c.in_ok-e.ensures ends)))

@@ -1,5 +1,4 @@
 -- `abbrev::read_set_bid` meets its contract: the tests in their order, around one number. Assumes nothing.
-use native.Mathlib.Omega.{arith}
 use borrow.Author.Tests.{eq-eqb, ne_eqb, lt-ltb, le-ltb}
 use Rattle.bits.proofs.Steps.{on, then_off, off, ends, pass, pass_off, fail}
 use Rattle.abbrev.specs.BlockInfo.{set_bid}
@@ -10,14 +9,19 @@ pub returns-then-count-ne1 : goal.returns-then-count-ne1
 unfolding set_bid
 returns-then-count-ne1 c = fail _ (ne_eqb _ 1 c.if-count-ne1.true)
 
-pub returns-then-b-ge4294967296 : goal.returns-then-b-ge4294967296
+pub returns-in-Ok : goal.returns-in-Ok
 unfolding set_bid
-returns-then-b-ge4294967296 c = pass_off _ _ (eq-eqb c.args.count 1 (omega arith)) (then_off _ (readable_at _ (rw c.in-Value.is at c.read_vbr.ensures)) (fail _ (le-ltb c.in-Value.b 4294967296 c.if-b-ge4294967296.true)))
+returns-in-Ok c =
+    pass _ _ (eq-eqb _ 1 c.if-count-ne1.false)
+    (on _ (readable_at _ (c.in-Ok.ensures)) (pass _ _ (lt-ltb _ 4294967296 c.if-b-lt4294967296.true) ends))
 
-pub returns-in-Refused : goal.returns-in-Refused
+pub returns-in_default : goal.returns-in_default
 unfolding set_bid
-returns-in-Refused c = pass_off _ _ (eq-eqb c.args.count 1 (omega arith)) (off _ (readable_off _ (rw c.in-Refused.is at c.read_vbr.ensures)))
+returns-in_default c =
+    pass_off _ _ (eq-eqb _ 1 c.if-count-ne1.false)
+    (then_off _ (readable_at _ (c.in-Ok.ensures)) (fail _ (le-ltb _ 4294967296 c.if-b-lt4294967296.false)))
 
-pub returns-else-b-ge4294967296 : goal.returns-else-b-ge4294967296
+pub returns-in_default-2 : goal.returns-in_default-2
 unfolding set_bid
-returns-else-b-ge4294967296 c = pass _ _ (eq-eqb c.args.count 1 (omega arith)) (on _ (readable_at _ (rw c.in-Value.is at c.read_vbr.ensures)) (pass _ _ (lt-ltb c.in-Value.b 4294967296 (omega arith)) ends))
+returns-in_default-2 c =
+    pass_off _ _ (eq-eqb _ 1 c.if-count-ne1.false) (off _ (readable_off _ (rw c.in_default.is at c.read_vbr.ensures)))
