@@ -25,13 +25,23 @@ use Rattle.walk.specs.Record.{Record, record_list, unabbreviated, rest}
 use Rattle.walk.specs.Piece.{Head, head, Event, enter, leave, record_event, record_of, skipping, Piece, the_record, definition, blockinfo, skipped, events, counted, store, added, State, after}
 use Rattle.walk.specs.Item.{Context, Begun, heads, records, heading, used, begun, begin, Opening, ended, defined, recorded, headed, event_room, leave_room, fits, finish, at_end, opening, within, Pass, body_of, complete, nested}
 use Rattle.walk.specs.Walk.{entry, entries, those, listed}
-use Rattle.walk.specs.Promises.{marks, context, state_of, Sits, Room, closed, Behind, completed, numbered, headed_at, Went, Entered, Ended, Does, plain, abbreviated, head_fits, Reads, Tells, DoesIn}
+use Rattle.walk.specs.Promises.{marks, context, state_of, Sits, Room, closed, Behind, completed, numbered, headed_at, Went, Entered, Ended, Does, plain, abbreviated, head_fits, Reads, Tells, DoesIn, placed_at}
 use Rattle.walk.specs.declared.Marks.{Marks}
 use Rattle.walk.specs.declared.Frame.{Frame}
 use Rattle.walk.specs.declared.RecordRead.{RecordRead}
 use Rattle.walk.specs.declared.Step.{Step}
 use Rattle.walk.specs.declared.Step.TheVariants as S
 use Rattle.walk.proofs.Visits.{room_lengths}
+
+-- ---- a part's answer, had back from the one that has the item's place
+pub placed_ok : {A : Type 0} (at : ℕ) (r : Result A Reason) {a : A} → placed_at at r ≡ Ok a → r ≡ Ok a
+placed_ok at (Ok a) i = cc
+placed_ok at (Err why) i = absurd (let z : ◌≡◌ {A = ℕ} 0 1 = cc in omega arith)
+
+pub placed_err : {A : Type 0} (at : ℕ) (r : Result A Reason) {x : Refused} → placed_at at r ≡ Err x
+    → (why : Reason) × (r ≡ Err why) × (record { reason = why; place = at } ≡ x)
+placed_err at (Ok a) i = absurd (let z : ◌≡◌ {A = ℕ} 0 1 = cc in omega arith)
+placed_err at (Err why) i = (why, refl, (cc))
 
 -- ---- a whole item, by its opening
 module _ (s skip : List ℕ) (f : Frame) (st : State) where
@@ -92,7 +102,7 @@ module _ (c : Context) (st : State) (from : ℕ) (s : List ℕ) (e q : ℕ) wher
   -- 0
   pub leave_off : {x : No} → align s e q ≡ refused x → numbered c st from 0 s e q ≡ refused (at_bit from x)
   unfolding begun when◌then◌else◌ ◌>>=◌ onward placed at_place
-  leave_off {no n x y} z = rw z
+  leave_off {x = no n u v} z = rw z
 
   pub leave_top : {r : ℕ} → align s e q ≡ got tt r → c.top ≡ true → numbered c st from 0 s e q ≡ got ended r
   unfolding begun finish when◌then◌else◌ ◌>>=◌ onward placed at_place leave_room give
@@ -139,12 +149,12 @@ module _ (c : Context) (st : State) (from : ℕ) (s : List ℕ) (e q : ℕ) wher
 
   pub head_off : {x : No} → head_fits s e q ≡ refused x → numbered c st from 1 s e q ≡ refused (at_bit from x)
   unfolding ◌>>=◌ onward placed at_place
-  head_off {no n x y} z = head_is ∙ rw z
+  head_off {x = no n u v} z = head_is ∙ rw z
 
   -- 2
   pub define_off : {x : No} → define s e q ≡ refused x → numbered c st from 2 s e q ≡ refused (at_bit from x)
   unfolding begun when◌then◌else◌ ◌>>=◌ onward placed at_place
-  define_off {no n x y} z = rw z
+  define_off {x = no n u v} z = rw z
 
   pub define_full : {a : Abbrev} {r : ℕ} → define s e q ≡ got a r → 32 ≤ st.locals → numbered c st from 2 s e q ≡ refused (refusal 17 from 0 0)
   unfolding begun finish when◌then◌else◌ ◌>>=◌ onward placed at_place require give
@@ -171,7 +181,7 @@ module _ (c : Context) (st : State) (from : ℕ) (s : List ℕ) (e q : ℕ) wher
   module _ (x : Reader No Record) where
     pub recording_off : {w : No} → x s e q ≡ refused w → recording x s e q ≡ refused (at_bit from w)
     unfolding recording ◌>>=◌ onward placed at_place
-    recording_off {no n u v} z = rw z
+    recording_off {w = no n u v} z = rw z
 
     pub recording_full : {r : Record} {p : ℕ} → x s e q ≡ got r p → st.room ≡ 0 → recording x s e q ≡ refused (refusal 18 from 0 0)
     unfolding recording ◌>>=◌ onward placed at_place event_room require
@@ -204,7 +214,7 @@ module _ (c : Context) (st : State) (s : List ℕ) (e p : ℕ) where
 
   pub open_off : {x : No} → p < limit s e → number_of c.wide s e p ≡ refused x → opening c st s e p ≡ refused (at_bit p x)
   unfolding opening here at_end ends_at begin ◌>>=◌ onward when◌then◌else◌ placed at_place
-  open_off {no n x y} h z = rw (lt-leb (limit s e) p h, z)
+  open_off {x = no n u v} h z = rw (lt-leb (limit s e) p h, z)
 
   pub open_number : {n q : ℕ} → p < limit s e → number_of c.wide s e p ≡ got n q → opening c st s e p ≡ numbered c st p n s e q
   unfolding opening here at_end ends_at begin ◌>>=◌ onward when◌then◌else◌ placed at_place

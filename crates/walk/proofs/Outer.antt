@@ -1,7 +1,9 @@
 -- The walk's outside: the skip list, the zeros behind what a store holds, the top level, and the whole call. Assumes nothing.
 use Rattle.std.specs.Prelude.{Result, Ok, Err}
 use mathlib.Core.Path.{◌≡◌, refl, sym, ap, ap₂, ◌∙◌}
-use mathlib.Core.Bool.{true, false}
+use mathlib.Core.Bool.{Bool, true, false}
+use Rattle.std.specs.Prelude.{◌||◌, eqb}
+use Rattle.std.specs.List.{list_any}
 use mathlib.Core.List.{List, [], ◌∷◌, ◌++◌, append_assoc, append-nil}
 use Prim.Native.Nat.{ℕ, ◌+◌, ◌-◌, ◌*◌, ◌/◌, ◌≤◌, ◌<◌}
 use native.Mathlib.Numerals.{add-one}
@@ -35,7 +37,11 @@ use Rattle.walk.specs.Demands.{Meets}
 pub listed_as : (b : ℕ) (xs : List ℕ) → list_any (λ y. eqb y b) xs ≡ listed b xs
 unfolding listed when◌then◌else◌
 listed_as b [] = refl
-listed_as b (x ∷ xs) = ?
+listed_as b (x ∷ xs) = go (eqb x b) (listed_as b xs)
+  where
+    go : (t : Bool) → list_any (λ y. eqb y b) xs ≡ listed b xs → (t || list_any (λ y. eqb y b) xs) ≡ (when t then true else listed b xs)
+    go true i = refl
+    go false i = i
 
 module _ (b : ℕ) (xs : List ℕ) (i : ℕ) where
   pub listed_none : length xs ≤ i → listed b (drop i xs) ≡ false

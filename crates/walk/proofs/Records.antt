@@ -10,7 +10,7 @@ use lib.ListN.{length, take}
 use lib.Seq.{length-take-le}
 use lib.Dec.{leb, ltb}
 use borrow.Rule.Slice.PartMut.{put_mid}
-use borrow.Author.Tests.{le-leb, lt-leb, lt-ltb, ne_eqb, leb-true}
+use borrow.Author.Tests.{le-leb, lt-leb, lt-ltb, ne_eqb, leb-true, leb-false}
 use Rattle.terms.specs.declared.Reason.{Reason}
 use Rattle.terms.specs.Refusals.{No, buffer_overflow, invalid_abbrev, block_number_too_large}
 use Rattle.bits.specs.Reader.{Reader, Answer, got, refused, onward, ◌>>=◌, give, stop, require, when◌then◌else◌}
@@ -18,9 +18,9 @@ use Rattle.bits.specs.Bits.{limit, align, vbr, skip}
 use Rattle.bits.specs.Told.{At, Off}
 use Rattle.bits.specs.declared.Cursor.{Cursor}
 use Rattle.bits.proofs.Steps.{on, then_off, off, ends, pass, pass_off, from_here, off_here, never}
-use Rattle.bits.proofs.Laws.{align_gives, skip_gives, skip_to}
+use Rattle.bits.proofs.Laws.{align_gives, skip_gives, skip_to, skip_off}
 use Rattle.bitcode.specs.declared.ScalarOperand.{ScalarOperand}
-use Rattle.bitcode.specs.declared.ScalarOperand.TheVariants.{Vbr}
+use Rattle.bitcode.specs.declared.ScalarOperand.TheVariants.{Literal, Fixed, Vbr, Char6}
 use Rattle.bitcode.specs.Scalar.{value}
 use Rattle.abbrev.specs.Abbrev.{Payload, none, blob, array, abbreviation}
 use Rattle.abbrev.specs.Tables.{row_size, slot, slots, load_of, abbrev_of}
@@ -112,6 +112,13 @@ plain_reads {code = code} {n = n} ops ops' ys fill x y z h t m = record {
 }
 
 -- ---- a payload
+pub list_kind : (k : ScalarOperand) → (k ≡ Char6 → ⊥) → array_kind k ≡ 1
+unfolding array_kind
+list_kind (Literal v) h = refl
+list_kind (Fixed w) h = refl
+list_kind (Vbr w) h = refl
+list_kind Char6 h = absurd (h refl)
+
 pub none_loads : {g : Cursor} {s : List ℕ} (left l code n fill : ℕ) (k : ScalarOperand) (ops : List ℕ) → l ≡ 0 → fill ≤ length ops
     → Loads g s (load left (load_of l k)) ops ops (record_read code n 0 0 0 fill) (record_read code n 0 0 0 fill) g
 unfolding load load_of when◌then◌else◌ record_of load_list
@@ -136,6 +143,9 @@ array_loads {n = n} k ops ops' ys r x y h t m = record {
   most = m;
 }
 
+same_refusal : {A : Type 0} {r r' : No} → ◌≡◌ {A = Answer No A} (refused r) (refused r') → r ≡ r'
+same_refusal h = cc
+
 -- a skip from a byte's first bit takes what the bytes of a blob take
 bytes_at : {c d : Cursor} {s : List ℕ} (n : ℕ) → At (skip n) s c.end c.at tt d → At (bytes n) s c.end c.at (octets s c.at n) d
 unfolding bytes bytes_if
@@ -143,13 +153,15 @@ bytes_at {c} {d} {s} n x =
     let w = skip_gives s c.end c.at d.at n x.gives in
     record { gives = rw (le-leb (c.at + 8 * n) (limit s c.end) w.1.inside, w.1.moved); ends = x.ends }
 
-bytes_off : {c : Cursor} {s : List ℕ} (n : ℕ) {r : No} → c.at % 8 ≡ 0 → Off (skip n) s c.end c.at r → Off (bytes n) s c.end c.at buffer_overflow
+bytes_off : {c : Cursor} {s : List ℕ} (n : ℕ) {r : No} → c.at % 8 ≡ 0 → Off (skip n) s c.end c.at r → Off (bytes n) s c.end c.at r
 unfolding bytes bytes_if
 bytes_off {c} {s} n {r} h x = record { why = go (leb (c.at + 8 * n) (limit s c.end)) refl }
   where
-    go : (b : Bool) → leb (c.at + 8 * n) (limit s c.end) ≡ b → bytes_if b s c.at n ≡ refused buffer_overflow
+    go : (b : Bool) → leb (c.at + 8 * n) (limit s c.end) ≡ b → bytes_if b s c.at n ≡ refused r
     go true i = absurd (never (sym x.why ∙ (skip_to s c.end c.at n h (leb-true _ _ i)).gives))
-    go false i = refl
+    go false i =
+        let o : Off (skip n) s c.end c.at buffer_overflow = skip_off s c.end c.at n h (leb-false _ _ i) in
+        ap refused (same_refusal (sym o.why ∙ x.why))
 
 pub aligned : {c d : Cursor} {s : List ℕ} → At align s c.end c.at tt d → d.at % 8 ≡ 0
 aligned {c} {d} {s} x = let w = align_gives s c.end c.at d.at x.gives in omega (arith, w.moved)
@@ -170,7 +182,7 @@ module _ {c d : Cursor} {s : List ℕ} (n : ℕ) where
   unfolding blob_bytes
   bytes_unaligned z w = off_here _ (then_off _ (bytes_at n z) (off _ w))
 
-pub bytes_short : {c : Cursor} {s : List ℕ} (n : ℕ) {r : No} → c.at % 8 ≡ 0 → Off (skip n) s c.end c.at r → Off (blob_bytes n) s c.end c.at buffer_overflow
+pub bytes_short : {c : Cursor} {s : List ℕ} (n : ℕ) {r : No} → c.at % 8 ≡ 0 → Off (skip n) s c.end c.at r → Off (blob_bytes n) s c.end c.at r
 unfolding blob_bytes
 bytes_short n h z = off_here _ (off _ (bytes_off n h z))
 

@@ -242,7 +242,7 @@ Runs c s m count rest (Err why) = Off m s c.end c.at (no_of why)
 
 -- the scalars of a record, as one run: the first is its code, for which there is always room, the others are the front of the store's rest
 abbrev pub Scalars : Cursor → List ℕ → ℕ → List ScalarOperand → ℕ → List ℕ → Result (ℕ × Cursor) Reason → Type 0
-Scalars c s left ks count rest (Ok (code , d)) =
+Scalars c s left ks count rest (Ok (code, d)) =
     At (values (suc left) ks) s c.end c.at (code ∷ take (count - 1) rest) d × (count - 1 ≤ length rest)
 Scalars c s left ks count rest (Err why) = Off (values (suc left) ks) s c.end c.at (no_of why)
 
@@ -261,7 +261,7 @@ pub record Reads (c : Cursor) (s : List ℕ) (m : Reader No Record) (fill : ℕ)
   pub most : r.fill ≤ length ops'
 
 abbrev pub Recorded : Cursor → List ℕ → Reader No Record → ℕ → List ℕ → List ℕ → Result (RecordRead × Cursor) Reason → Type 0
-Recorded c s m fill ops ops' (Ok (r , d)) = Reads c s m fill ops ops' r d
+Recorded c s m fill ops ops' (Ok (r, d)) = Reads c s m fill ops ops' r d
 Recorded c s m fill ops ops' (Err why) = Off m s c.end c.at (no_of why)
 
 -- a payload, behind a record's code and operands
@@ -292,7 +292,7 @@ pub record Loads (c : Cursor) (s : List ℕ) (m : Reader No Load) (ops ops' : Li
   pub most : r'.fill ≤ length ops'
 
 abbrev pub Loaded : Cursor → List ℕ → Reader No Load → List ℕ → List ℕ → RecordRead → Result (RecordRead × Cursor) Reason → Type 0
-Loaded c s m ops ops' r (Ok (r' , d)) = Loads c s m ops ops' r r' d
+Loaded c s m ops ops' r (Ok (r', d)) = Loads c s m ops ops' r r' d
 Loaded c s m ops ops' r (Err why) = Off m s c.end c.at (no_of why)
 
 -- a record's event: the marks behind it, or no room
@@ -325,5 +325,5 @@ head_fits = do
   give h
 
 abbrev pub Heads : Cursor → List ℕ → Reader No Head → Result (BlockHead × Cursor) Reason → Type 0
-Heads c s m (Ok (h , d)) = At m s c.end c.at (head h.block h.width (d.at / 8) h.length) d × (d.at + 8 * h.length ≤ limit s c.end)
+Heads c s m (Ok (h, d)) = At m s c.end c.at (head h.block h.width (d.at / 8) h.length) d × (d.at + 8 * h.length ≤ limit s c.end)
 Heads c s m (Err why) = Off m s c.end c.at (no_of why)

@@ -4,7 +4,10 @@
 
 ghost use Rattle.std.specs.Prelude.{◌≡◌, List, [], ◌∷◌, ◌++◌, true, false, ℕ, ◌+◌, ◌-◌, ◌*◌, ◌/◌, ◌%◌, ◌≤◌, ◌<◌, min, length, take, replicate};
 ghost use Rattle.terms.specs.Limits.{event_size, max_shared, max_local};
-ghost use Rattle.bits.specs.Bits.{limit};
+ghost use Rattle.bits.specs.Bits.{limit, read, vbr};
+ghost use Rattle.bits.specs.Told.{Gives, of_read};
+ghost use Rattle.bitcode.specs.Scalar.{value};
+ghost use Rattle.bitcode.specs.declared.ScalarOperand.TheVariants.{Char6};
 ghost use Rattle.abbrev.specs.Abbrev.{array, blob};
 ghost use Rattle.abbrev.specs.Tables.{row_size, slot_count, Tables, slots, abbrev_of, Whole, Kept, Below};
 ghost use Rattle.walk.specs.Record.{repeated, array_kind};
@@ -218,10 +221,38 @@ fn fill_run(
     ensures { Runs c s.now (repeated (length rest.old) count k) count rest.new result }
 {
     match k {
-        ScalarOperand::Literal(v) => fill(|c| Ok((v, c)), c, count, rest),
-        ScalarOperand::Fixed(w) => fill(|c| c.read(s, w), c, count, rest),
-        ScalarOperand::Vbr(w) => fill(|c| c.read_vbr(s, w), c, count, rest),
-        ScalarOperand::Char6 => fill(|c| bitcode::read_char6(c, s), c, count, rest),
+        ScalarOperand::Literal(v) => fill(
+            |c: Cursor|
+                ensures { result ≡ Ok (v, c) }
+            { Ok((v, c)) },
+            c,
+            count,
+            rest,
+        ),
+        ScalarOperand::Fixed(w) => fill(
+            |c: Cursor|
+                ensures { Gives c s.entry.now (read w) (of_read result) }
+            { c.read(s, w) },
+            c,
+            count,
+            rest,
+        ),
+        ScalarOperand::Vbr(w) => fill(
+            |c: Cursor|
+                ensures { Gives c s.entry.now (vbr w) (of_read result) }
+            { c.read_vbr(s, w) },
+            c,
+            count,
+            rest,
+        ),
+        ScalarOperand::Char6 => fill(
+            |c: Cursor|
+                ensures { Gives c s.entry.now (value Char6) (of_read result) }
+            { bitcode::read_char6(c, s) },
+            c,
+            count,
+            rest,
+        ),
     }
 }
 
@@ -318,18 +349,18 @@ fn read_array(
 fn read_blob_bytes(
     c: Cursor,
     s: &[u8],
-    length: u64,
+    size: u64,
     r: RecordRead,
 ) -> Result<(RecordRead, Cursor), Reason>
     requires { c.at % 8 ≡ 0 }
-    ensures { (ops : List ℕ) → r.fill ≤ length ops → Loaded c s.now (blob_bytes length) ops ops r result }
+    ensures { (ops : List ℕ) → r.fill ≤ length ops → Loaded c s.now (blob_bytes size) ops ops r result }
 {
-    let d = c.skip_bytes(s, length)?;
+    let d = c.skip_bytes(s, size)?;
     let end = d.align32(s)?;
     let read = RecordRead {
         kind: BLOB,
         at: c.at / 8,
-        length,
+        length: size,
         ..r
     };
     Ok((read, end))
@@ -381,7 +412,12 @@ fn read_abbreviated(
 }
 
 // The end of a head: the body's length in words; the body must lie within the parent.
-fn read_body_length(c: Cursor, s: &[u8], block: u64, width: u64) -> Result<(BlockHead, Cursor), Reason>
+fn read_body_length(
+    c: Cursor,
+    s: &[u8],
+    block: u64,
+    width: u64,
+) -> Result<(BlockHead, Cursor), Reason>
     ensures { Heads c s.now (head_length block width) result }
 {
     let (n, d) = c.read(s, 32)?;
@@ -432,20 +468,17 @@ fn leave(s: &[u8], f: Frame, m: Marks, d: Cursor, events: &mut [u64]) -> Result<
     ensures { (skip own ops : List ℕ) (t : Tables) → Sits (length events.old) (length ops) f m → DoesIn s.now skip f m own t t events.old events.new ops ops (numbered_of s.now f m own t (length events.old) (length ops) 0 d) result }
 {
     let g = d.align32(s)?;
-    if f.top {
-        return Ok(Step::End(Marks {
-            at: g.at,
-            local: f.base,
-            ..m
-        }));
-    }
-    put_event(events, m.events, [LEAVE, f.number, 0, 0, 0, 0, 0, 0])?;
-    Ok(Step::End(Marks {
+    let behind = Marks {
         at: g.at,
-        events: m.events + EVENT_SIZE,
         local: f.base,
         ..m
-    }))
+    };
+    if f.top {
+        return Ok(Step::End(behind));
+    }
+    put_event(events, m.events, [LEAVE, f.number, 0, 0, 0, 0, 0, 0])?;
+    let events = m.events + EVENT_SIZE;
+    Ok(Step::End(Marks { events, ..behind }))
 }
 
 // A BLOCKINFO: what it adds stands in the shared rows behind it, and it gives no event.
@@ -510,7 +543,16 @@ fn open_block(
     if f.left == 0 {
         return Err(Reason::TooDeep(head.block));
     }
-    let e = [ENTER, head.block, head.width, g.at / 8, head.length, 0, 0, 0];
+    let e = [
+        ENTER,
+        head.block,
+        head.width,
+        g.at / 8,
+        head.length,
+        0,
+        0,
+        0,
+    ];
     put_event(events, m.events, e)?;
     let inside = Marks {
         at: g.at,
@@ -583,7 +625,9 @@ fn tell_record(
     ensures { Tells f m r at events.old events.new result }
 {
     let first = m.operands as u64;
-    let e = [RECORD, f.number, r.code, first, r.count, r.kind, r.at, r.length];
+    let e = [
+        RECORD, f.number, r.code, first, r.count, r.kind, r.at, r.length,
+    ];
     put_event(events, m.events, e)?;
     Ok(Step::Go(Marks {
         at,
@@ -681,16 +725,12 @@ fn visit_block(
     ensures is { Is s.now skip.now f m (held tables.old) (held tables.new) ev.old ev.new ops.old ops.new result }
 {
     let mut rows = [0u8; MAX_SHARED];
-    let many = abbrev::shared_rows(
-        BlockNumber(f.number),
-        &tables.owners,
-        m.shared,
-        &mut rows,
-    );
+    let many = abbrev::shared_rows(BlockNumber(f.number), &tables.owners, m.shared, &mut rows);
     let own = &rows[0..many];
     let mut st = m;
     loop {
-        match try_next(s, skip, f, st, own, tables, ev, ops)? {
+        let step = try_next(s, skip, f, st, own, tables, ev, ops)?;
+        match step {
             Step::Go(t) => {
                 st = t;
             }
@@ -746,11 +786,7 @@ fn clear(store: &mut [u64], from: usize)
 }
 
 // A refused walk: both stores all zero.
-fn deny(
-    refused: Refused,
-    events: &mut [u64],
-    operands: &mut [u64],
-) -> Result<Accepted, Refused>
+fn deny(refused: Refused, events: &mut [u64], operands: &mut [u64]) -> Result<Accepted, Refused>
     ensures { Denies refused (length events.old) (length operands.old) result events.new operands.new }
 {
     clear(events, 0);

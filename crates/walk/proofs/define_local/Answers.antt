@@ -15,7 +15,7 @@ returns-in_err-shape c =
     let w = c.in_err-shape.ensures.gives in
     let z = rw p.in_range.3 at (undefined_in _ _ _ (omega (arith, p.in_range.2)) (omega (arith, p.whole.kinds, p.in_range.2)) (omega (arith, p.whole.widths, p.in_range.2)) w) in
     record {
-      kept = kept_define k.0 k.1;
+      kept = kept_define k.kinds k.widths;
       does = λ skip own ev ops b sits. handed (DoesIn _ _ _ _ _ _ _ _ _ _ _ _) _ c.from_residual.ensures.1 (completed_off a.s.now skip a.f _ (define_off _ _ _ _ _ _ z.why));
     }
 
@@ -27,7 +27,7 @@ returns-then-m-ge-MAX_LOCAL c =
     let w = c.in_ok-shape.ensures.gives in
     let z = rw p.in_range.3 at (defined_in _ _ _ (omega (arith, p.in_range.2)) (omega (arith, p.whole.kinds, p.in_range.2)) (omega (arith, p.whole.widths, p.in_range.2)) w) in
     record {
-      kept = kept_define k.0 k.1;
+      kept = kept_define k.kinds k.widths;
       does = λ skip own ev ops b sits. completed_off a.s.now skip a.f _ (define_full _ _ _ _ _ _ z.gives c.if-m-ge-MAX_LOCAL.true);
     }
 
@@ -40,8 +40,8 @@ returns c =
     let z = rw p.in_range.3 at (defined_in _ _ _ (omega (arith, p.in_range.2)) (omega (arith, p.whole.kinds, p.in_range.2)) (omega (arith, p.whole.widths, p.in_range.2)) w) in
     let room = c.if-m-ge-MAX_LOCAL.false in
     record {
-      kept = kept_shape _ k.0 k.1;
+      kept = kept_shape _ k.kinds k.widths;
       does = λ skip own ev ops b sits.
-          define_went a.s.now skip a.f a.m own _ ev ops sits _ _ _ _ k.0 k.1 b (omega (arith, p.whole.shapes, room)) (omega (arith, room))
+          define_went a.s.now skip a.f a.m own _ ev ops sits _ _ _ _ k.kinds k.widths b (omega (arith, p.whole.shapes, room)) (omega (arith, room))
           (define_done _ _ _ _ _ _ z.gives (omega (arith, room)));
     }

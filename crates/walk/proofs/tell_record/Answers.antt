@@ -6,7 +6,7 @@ use Rattle.walk.specs.Promises.{Tells}
 use Rattle.walk.proofs.tell_record.Goals as goal
 
 pub returns-in_err-put_event : goal.returns-in_err-put_event
-returns-in_err-put_event c = handed (Tells _ _ _ _ _ _) _ c.from_residual.ensures.1 c.in_err-put_event.ensures
+returns-in_err-put_event c = handed (Tells c.args.f c.args.m c.args.r c.args.at _ _) _ c.from_residual.ensures.1 c.in_err-put_event.ensures
 
 pub returns : goal.returns
 unfolding entry
