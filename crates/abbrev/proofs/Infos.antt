@@ -3,7 +3,7 @@
 use mathlib.Core.Path.{◌≡◌, refl, sym, ap, ap₂, ◌∙◌}
 use mathlib.Core.Bool.{Bool, true, false}
 use mathlib.Core.List.{List, [], ◌∷◌, ◌++◌, append_assoc, append-nil}
-use mathlib.Core.Option.{Option, none as nothing, some}
+use mathlib.Core.Option.{Option, none as nothing}
 use Prim.Native.Nat.{ℕ, zero, suc, ◌+◌, ◌-◌, ◌*◌, ◌≤◌, ◌<◌}
 use native.Mathlib.Omega.{arith}
 use lib.ListN.{length, set, length-set}
@@ -11,7 +11,7 @@ use lib.Seq.{get_or-set_same, get_or-set_other}
 use lib.Dec.{leb}
 use borrow.Author.Tests.{lt-ltb, le-ltb, le-leb, lt-leb, leb-true}
 use Rattle.std.specs.Prelude.{Option as RustOption, Some, None, Result, Ok, Err, ok_or, MatchResult, IsErrAnd}
-use Rattle.terms.specs.Refusals.{No, no, no_of, Refusal, refusal, refusal_of, at_bit, value_overflow, missing_set_bid, no_abbreviation_room}
+use Rattle.terms.specs.Refusals.{No, no, no_of, Refusal, refusal, at_bit, value_overflow, no_abbreviation_room}
 use Rattle.terms.specs.declared.Reason.{Reason}
 use Rattle.terms.specs.declared.Reason.TheVariants.{MissingSetBid}
 use Rattle.terms.specs.declared.Refused.{Refused}

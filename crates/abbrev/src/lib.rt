@@ -451,11 +451,11 @@ pub fn shared_rows(block: BlockNumber, owners: &[u64], shared: usize, rows: &mut
 {
     let many = shared.min(MAX_SHARED).min(owners.len());
     let mut k = 0;
-    for j in 0..many {
+    for (j, owner) in owners[..many].iter().enumerate() {
         if rows.len() <= k {
             return k;
         }
-        if BlockNumber(owners[j]) == block {
+        if BlockNumber(*owner) == block {
             rows[k] = j as u8;
             k += 1;
         }

@@ -1,5 +1,4 @@
 -- `abbrev::read_info_definition` meets its contract: a definition behind the choice of a block, and room for it. Assumes nothing.
-use Prim.Native.Nat.{◌*◌}
 use native.Mathlib.Omega.{arith}
 use Rattle.bits.proofs.Steps.{handed}
 use Rattle.abbrev.specs.Tables.{InfoDoes}
