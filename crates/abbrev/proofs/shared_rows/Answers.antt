@@ -23,8 +23,8 @@ loop-j-preserved c =
     let h : c.loop-j.j < c.min-many.result = omega (arith, length-take {A = ℕ}) in
     let e = sym (get_or-take c.min-many.result c.args.owners.now c.loop-j.j 0 h) in
     elim c.if-eq.branch [
-      then-eq w ↦ rw (w.rows-is, w.k-is) (picking_more p h (omega arith) (e ∙ eqb-true _ _ (sym c.eq.ensures ∙ w.if-eq.true)))
-    | else-eq w ↦ rw (w.rows-is, w.k-is) (picking_less p h (λ i. eqb-false _ _ (sym c.eq.ensures ∙ w.if-eq.false) (sym e ∙ i)))
+      | then-eq w ↦ rw (w.rows-is, w.k-is) (picking_more p h (omega arith) (e ∙ eqb-true _ _ (sym c.eq.ensures ∙ w.if-eq.true)))
+      | else-eq w ↦ rw (w.rows-is, w.k-is) (picking_less p h (λ i. eqb-false _ _ (sym c.eq.ensures ∙ w.if-eq.false) (sym e ∙ i)))
     ]
 
 pub returns : goal.returns
