@@ -170,6 +170,14 @@ module _ (row kinds widths : ℕ) (i : row < row_count) (j : row_size * row + ro
   pub undefined_in : {r : No} → Off (define_row row kinds widths) s e p r → Off define s e p r
   undefined_in o = record { why = sym (define_in row kinds widths s e p i j k) ∙ o.why }
 
+-- and so into tables that have all shared rows
+module _ (have : ℕ) {kinds widths : ℕ} (p : (have ≤ 32) × (shared_slots ≤ kinds) × (shared_slots ≤ widths)) {s : List ℕ} {c : Cursor} where
+  pub defined_shared : {a : Abbrev} {d : Cursor} → At (define_row have kinds widths) s c.end c.at a d → At define s c.end c.at a d
+  defined_shared x = defined_in have kinds widths (omega (arith, p.0)) (omega (arith, p.0, p.1)) (omega (arith, p.0, p.2)) x
+
+  pub undefined_shared : {r : No} → Off (define_row have kinds widths) s c.end c.at r → Off define s c.end c.at r
+  undefined_shared o = undefined_in have kinds widths (omega (arith, p.0)) (omega (arith, p.0, p.1)) (omega (arith, p.0, p.2)) o
+
 -- the block that is chosen, if any, as `ok_or` gives it
 module _ {s : List ℕ} (c : Cursor) where
   pub choice_at : (o : RustOption BlockNumber) {b : BlockNumber} → Ok b ≡ ok_or o MissingSetBid → At (chosen (of_chosen o)) s c.end c.at b.0 c

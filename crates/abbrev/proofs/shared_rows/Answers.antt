@@ -1,20 +1,17 @@
 -- `abbrev::shared_rows` meets its contract: the rows picked so far stand in front of the store, and each turn leaves one row fewer to see. Assumes nothing.
-use mathlib.Core.Path.{◌∙◌, ap, sym}
+use mathlib.Core.Path.{◌∙◌, sym}
 use native.Mathlib.Omega.{arith}
 use borrow.Author.Tests.{eqb-true, eqb-false}
-use Prim.Native.Nat.{ℕ, ◌<◌, min}
-use lib.ListN.{length, length-take}
+use Prim.Native.Nat.{ℕ, ◌<◌}
+use lib.ListN.{length-take}
 use lib.Seq.{get_or-take}
-use Rattle.abbrev.proofs.Held.{picking_start, picking_more, picking_less, picking_end, picking_full}
+use Rattle.abbrev.proofs.Held.{picking_more, picking_less, picking_end, picking_full}
 use Rattle.abbrev.proofs.shared_rows.Goals as goal
 use Rattle.abbrev.proofs.shared_rows.Goals.{then-eq, else-eq}
 
-pub loop-j-init : goal.loop-j-init
-loop-j-init c = picking_start _ _ _ _
-
 pub returns-then-rows-k : goal.returns-then-rows-k
 returns-then-rows-k c =
-    let p = picking_full c.loop-j.invariant _ (c.min-many.ensures ∙ ap (λ n. min n (length c.args.owners.now)) c.min.ensures) (omega arith) in
+    let p = picking_full c.loop-j.invariant c.args.shared (omega arith) (omega arith) in
     record { many = p.0; stored = p.1 }
 
 pub loop-j-preserved : goal.loop-j-preserved
@@ -29,5 +26,5 @@ loop-j-preserved c =
 
 pub returns : goal.returns
 returns c =
-    let p = picking_end c.loop-j.invariant _ (c.min-many.ensures ∙ ap (λ n. min n (length c.args.owners.now)) c.min.ensures) (omega (arith, length-take {A = ℕ})) in
+    let p = picking_end c.loop-j.invariant c.args.shared (omega arith) (omega (arith, length-take {A = ℕ})) in
     record { many = p.0; stored = p.1 }
