@@ -90,19 +90,12 @@ pub fn read_scalar_operand(
     }
 }
 
-// Four bytes as one number, the first one lowest.
-fn four(a: u8, b: u8, c: u8, d: u8) -> u64
-    ensures { (result ≡ a + 256 * b + 65536 * c + 16777216 * d) × (result < 4294967296) }
-{
-    (a as u64) + (b as u64) * 0x100 + (c as u64) * 0x1_0000 + (d as u64) * 0x100_0000
-}
-
-// The 32-bit word at the byte k, whose four bytes are there.
+// The 32-bit word at the byte k, whose four bytes are there, the first one lowest.
 fn word_at(s: &[u8], k: usize) -> u64
     requires { k + 4 ≤ length s.now }
     ensures { (result ≡ word s.now k) × (result < 4294967296) }
 {
-    four(s[k], s[k + 1], s[k + 2], s[k + 3])
+    u64::from(u32::from_le_bytes([s[k], s[k + 1], s[k + 2], s[k + 3]]))
 }
 
 // The header of a wrapper: the part of the input that it points to must lie in the input and hold a word.
@@ -183,10 +176,7 @@ pub fn bytes_of(stream: &[u8], place: u64, length: u64) -> &[u8]
     ensures { result.now ≡ bytes_of stream.now place length }
 {
     let have = stream.len() as u64;
-    if have < length {
-        return &stream[0..0];
-    }
-    if have - length < place {
+    if have < length || have - length < place {
         return &stream[0..0];
     }
     let a = place as usize;

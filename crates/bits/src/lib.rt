@@ -16,40 +16,19 @@ pub struct Cursor {
     pub end: u64,
 }
 
-// Eight bytes as one number, the first one lowest: LLVM makes one load of them.
-fn eight(a: u8, b: u8, c: u8, d: u8, e: u8, f: u8, g: u8, h: u8) -> u64
-    ensures { result ≡ a + 256 * (b + 256 * (c + 256 * (d + 256 * (e + 256 * (f + 256 * (g + 256 * h)))))) }
-{
-    (a as u64)
-        + (b as u64) * 0x100
-        + (c as u64) * 0x1_0000
-        + (d as u64) * 0x100_0000
-        + (e as u64) * 0x1_0000_0000
-        + (f as u64) * 0x100_0000_0000
-        + (g as u64) * 0x1_0000_0000_0000
-        + (h as u64) * 0x100_0000_0000_0000
-}
-
-// A byte as a word.
-fn wide(x: u8) -> u64
-    ensures { (result ≡ x) × (result < 256) }
-{
-    x as u64
-}
-
 // The byte at i, and 0 past the end.
 fn byte_at(s: &[u8], i: usize) -> u8
     ensures { result ≡ get_or s.now i 0 }
 {
-    if i < s.len() { s[i] } else { 0 }
+    s.get(i).copied().unwrap_or(0)
 }
 
-// The eight bytes from b on, which are there.
+// The eight bytes from b on, which are there, as one number, the first one lowest: LLVM makes one load of them.
 fn eight_there(s: &[u8], b: usize) -> u64
     requires { b + 8 ≤ length s.now }
     ensures { result ≡ word64 s.now b }
 {
-    eight(
+    u64::from_le_bytes([
         s[b],
         s[b + 1],
         s[b + 2],
@@ -58,7 +37,7 @@ fn eight_there(s: &[u8], b: usize) -> u64
         s[b + 5],
         s[b + 6],
         s[b + 7],
-    )
+    ])
 }
 
 // The n low bits of w.
@@ -86,7 +65,7 @@ fn field_nine(s: &[u8], p: u64, n: u64) -> u64
     let k = p % 8;
     let m = 64 - k;
     let x = eight_there(s, b) >> k;
-    let y = low(wide(s[b + 8]), n - m);
+    let y = low(u64::from(s[b + 8]), n - m);
     x + (y << m)
 }
 
@@ -101,7 +80,7 @@ fn field_far(s: &[u8], p: u64, n: u64) -> u64
     if 64 < k + n && b + 9 <= s.len() {
         return field_nine(s, p, n);
     }
-    let x = wide(byte_at(s, b)) >> k;
+    let x = u64::from(byte_at(s, b)) >> k;
     if k + n <= 8 {
         return low(x, n);
     }
@@ -155,10 +134,7 @@ impl Cursor {
     pub fn read(self, s: &[u8], n: u64) -> Result<(u64, Cursor), Reason>
         ensures { Gives self s.now (read n) (of_read result) }
     {
-        if n < 1 {
-            return Err(Reason::VbrOverflow);
-        }
-        if 64 < n {
+        if n < 1 || 64 < n {
             return Err(Reason::VbrOverflow);
         }
         let at = self.at;
@@ -202,10 +178,7 @@ impl Cursor {
     pub fn read_vbr(self, s: &[u8], w: u64) -> Result<(u64, Cursor), Reason>
         ensures { Gives self s.now (vbr w) (of_read result) }
     {
-        if w < 1 {
-            return Err(Reason::VbrOverflow);
-        }
-        if 32 < w {
+        if w < 1 || 32 < w {
             return Err(Reason::VbrOverflow);
         }
         let unit = power(w - 1);
@@ -306,7 +279,7 @@ pub fn signed(v: u64) -> i64
         return half;
     }
     if v == 1 {
-        return -9223372036854775808;
+        return i64::MIN;
     }
     -half
 }

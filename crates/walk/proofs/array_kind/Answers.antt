@@ -6,14 +6,6 @@ pub returns-in-Char6 : goal.returns-in-Char6
 unfolding array_kind
 returns-in-Char6 c = rw c.in-Char6.is
 
-pub returns-in-Literal : goal.returns-in-Literal
+pub returns-in_default : goal.returns-in_default
 unfolding array_kind
-returns-in-Literal c = rw c.in-Literal.is
-
-pub returns-in-Fixed : goal.returns-in-Fixed
-unfolding array_kind
-returns-in-Fixed c = rw c.in-Fixed.is
-
-pub returns-in-Vbr : goal.returns-in-Vbr
-unfolding array_kind
-returns-in-Vbr c = rw c.in-Vbr.is
+returns-in_default c = ?

@@ -1,5 +1,5 @@
 -- `bits::Cursor::read_vbr` meets its contract: what is left, with the sum in hand, gives the whole number, and each chunk leaves fewer bits. Assumes nothing.
-use Rattle.bits.proofs.Vbr.{going_start, going_refused, going_over, going_last, going_more, vbr_none, vbr_wide, sum_fits, read_ahead, ahead_less}
+use Rattle.bits.proofs.Vbr.{going_start, going_refused, going_over, going_last, going_more, vbr_outside, sum_fits, read_ahead, ahead_less}
 use borrow.Author.Rules.{rules}
 use lib.Pow.{pow_pos}
 use native.Mathlib.Omega.{arith}
@@ -7,10 +7,7 @@ use Prim.Native.Nat.{◌-◌}
 use Rattle.bits.proofs.Cursor.read_vbr.Goals as goal
 
 pub returns-then-w-lt1 : goal.returns-then-w-lt1
-returns-then-w-lt1 c = vbr_none _ _ _ _ (omega arith)
-
-pub returns-then-w-gt32 : goal.returns-then-w-gt32
-returns-then-w-gt32 c = vbr_wide _ _ _ _ (omega arith)
+returns-then-w-lt1 c = vbr_outside _ _ _ _ (λ h k. omega arith)
 
 pub loop-e-init : goal.loop-e-init
 loop-e-init c = going_start _ _ _ (omega arith) (omega arith)
