@@ -1,7 +1,8 @@
 -- `abbrev::read_info_definition` meets its contract: a definition behind the choice of a block, and room for it. Assumes nothing.
 use Rattle.bits.proofs.Steps.{handed}
 use Rattle.abbrev.specs.Tables.{InfoDoes}
-use Rattle.abbrev.proofs.Infos.{defined_shared, undefined_shared, choice_at, choice_off, definition_unchosen, definition_off, definition_full, definition_adds}
+use Rattle.abbrev.proofs.Infos.{defined_shared, undefined_shared, definition_unchosen, definition_off, definition_full, definition_adds}
+use Rattle.abbrev.proofs.Records.{choice_at, choice_off}
 use Rattle.abbrev.proofs.read_info_definition.Goals as goal
 
 pub returns-in_err-block-clause-does : goal.returns-in_err-block-clause-does

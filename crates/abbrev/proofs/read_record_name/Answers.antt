@@ -7,7 +7,8 @@ use Rattle.terms.specs.declared.Reason.TheVariants.{InvalidBlockInfoRecord}
 use Rattle.bits.proofs.Steps.{on, then_off, off, ends, pass, pass_off, fail, handed_on}
 use Rattle.abbrev.specs.BlockInfo.{record_name}
 use Rattle.abbrev.specs.Tables.{of_named}
-use Rattle.abbrev.proofs.Infos.{ok_before, err_before, choice_at, choice_off, readable_at, readable_off}
+use Rattle.abbrev.proofs.Infos.{ok_before, err_before}
+use Rattle.abbrev.proofs.Records.{choice_at, choice_off, readable_at, readable_off}
 use Rattle.abbrev.proofs.read_record_name.Goals as goal
 
 pub returns-in_err-ok_or : goal.returns-in_err-ok_or

@@ -6,7 +6,8 @@ use Rattle.terms.specs.declared.Reason.TheVariants.{InvalidBlockInfoRecord}
 use Rattle.bits.proofs.Steps.{on, then_off, off, ends, pass, pass_off, fail, handed_on}
 use Rattle.abbrev.specs.BlockInfo.{set_bid}
 use Rattle.abbrev.specs.Tables.{of_named}
-use Rattle.abbrev.proofs.Infos.{ok_before, err_before, readable_at, readable_off}
+use Rattle.abbrev.proofs.Infos.{ok_before, err_before}
+use Rattle.abbrev.proofs.Records.{readable_at, readable_off}
 use Rattle.abbrev.proofs.read_set_bid.Goals as goal
 
 pub returns-then-count-ne1 : goal.returns-then-count-ne1
