@@ -3,97 +3,34 @@
 use mathlib.Core.Path.{◌≡◌, refl, sym, ap, ap₂, ◌∙◌}
 use mathlib.Core.Bool.{Bool, true, false}
 use mathlib.Core.List.{List, [], ◌∷◌, ◌++◌, append_assoc, append-nil}
-use mathlib.Core.Option.{Option, none as nothing, some}
+use mathlib.Core.Option.{Option, none as nothing}
 use Prim.Native.Nat.{ℕ, zero, suc, ◌+◌, ◌-◌, ◌*◌, ◌≤◌, ◌<◌}
 use native.Mathlib.Omega.{arith}
 use lib.ListN.{length, set, length-set}
 use lib.Seq.{get_or-set_same, get_or-set_other}
 use lib.Dec.{leb}
-use borrow.Author.Tests.{lt-ltb, le-ltb, le-leb, lt-leb, leb-true}
-use Rattle.std.specs.Prelude.{Option as RustOption, Some, None, Result, Ok, Err, ok_or, MatchResult, IsErrAnd}
-use Rattle.terms.specs.Refusals.{No, no, no_of, Refusal, refusal, refusal_of, at_bit, value_overflow, missing_set_bid, no_abbreviation_room}
+use borrow.Author.Tests.{lt-ltb, le-ltb, le-leb, leb-true}
+use Rattle.std.specs.Prelude.{Result, Ok, Err, MatchResult, IsErrAnd}
+use Rattle.terms.specs.Refusals.{No, no, Refusal, refusal, at_bit, no_abbreviation_room}
 use Rattle.terms.specs.declared.Reason.{Reason}
-use Rattle.terms.specs.declared.Reason.TheVariants.{MissingSetBid}
 use Rattle.terms.specs.declared.Refused.{Refused}
 use Rattle.bits.specs.declared.Cursor.{Cursor}
-use Rattle.bits.specs.Reader.{Reader, Answer, got, refused, onward, ◌>>=◌, give, stop, require, when◌then◌else◌, here, turns, at_place, placed}
-use Rattle.bits.specs.Bits.{limit, vbr}
+use Rattle.bits.specs.Reader.{Reader, Answer, got, refused, onward, ◌>>=◌, give, require, when◌then◌else◌, here, turns, at_place, placed}
+use Rattle.bits.specs.Bits.{limit}
 use Rattle.bits.specs.Told.{At, Off}
 use Rattle.bits.proofs.Steps.{on, then_off, off, ends, pass, fail, never, apart, passed, mapped, mapped_twice, mapped_same, gives_mapped, mapped_got, mapped_off, so, so_off}
 use Rattle.bits.proofs.Laws.{limit_in, and_true}
 use Rattle.bits.proofs.Vbr.{read_ahead}
 use Rattle.bits.proofs.Answers.{when_got, places}
 use Rattle.abbrev.specs.Abbrev.{Abbrev, define, number_of}
-use Rattle.abbrev.specs.BlockInfo.{Shared, shared, every, or_else, readable, chosen, info_definition, letters, InfoItem as Item, info_end, info_adds, info_now, info_numbered, info_item, info_on, info}
-use Rattle.abbrev.specs.Tables.{row_size, local_rows, row_count, shared_slots, Tables, tables, abbrev_of, shareds, KeptBut, Kept, Whole, define_row, of_chosen, InfoDoes, info_all, shared_fit, info_block, Adds, InfoIs}
-use Rattle.abbrev.specs.declared.BlockNumber.{BlockNumber}
+use Rattle.abbrev.specs.BlockInfo.{Shared, shared, every, chosen, info_definition, InfoItem as Item, info_end, info_adds, info_now, info_numbered, info_item, info_on, info}
+use Rattle.abbrev.specs.Tables.{row_size, local_rows, row_count, shared_slots, Tables, tables, abbrev_of, shareds, KeptBut, Kept, Whole, define_row, InfoDoes, info_all, shared_fit, info_block, Adds, InfoIs}
 use Rattle.abbrev.specs.declared.InfoItem.{InfoItem}
 use Rattle.abbrev.specs.declared.InfoItem.TheVariants as S
 use Rattle.abbrev.proofs.Answers.{info_items}
+use Rattle.abbrev.proofs.Records.{pass_so}
 use Rattle.abbrev.proofs.Rows.{outside_refl, outside_set, row_fits}
 use Rattle.abbrev.proofs.Held.{kept_refl, kept_then, kept_row, shareds_kept, shareds_more, row_set}
-
--- ---- a test that passes leaves the rest
-pub pass_so : {R B : Type 0} (r : R) {b : Bool} (f : Unit {0} → Reader R B) (s : List ℕ) (e p : ℕ) → b ≡ true → (require b r >>= f) s e p ≡ f tt s e p
-unfolding ◌>>=◌ onward require
-pass_so r f s e p i = rw i
-
--- ---- a number that has to be readable
-hidden : {A : Type 0} (r r' : No) → or_else {A = A} every r (refused r') ≡ refused r
-unfolding or_else every when◌then◌else◌
-hidden r (no n x y) = refl
-
-module _ {A : Type 0} (r : No) {m : Reader No A} {s : List ℕ} {e p : ℕ} where
-  pub readable_at : {a : A} {d : Cursor} → At m s e p a d → At (readable every r m) s e p a d
-  unfolding readable or_else
-  readable_at x = record { gives = rw x.gives; ends = x.ends }
-
-  pub readable_off : {r' : No} → Off m s e p r' → Off (readable every r m) s e p r
-  unfolding readable
-  readable_off {r'} o = record { why = ap (or_else every r) o.why ∙ hidden r r' }
-
--- ---- the loop that reads name letters: i of them are read
-pub record Spelling (s : List ℕ) (count : ℕ) (c₀ c : Cursor) (i : ℕ) : Type 0 where
-  pub rest : letters count s c₀.end c₀.at ≡ letters (count - i) s c.end c.at
-  pub same_end : c.end ≡ c₀.end
-
-pub spelling_start : (s : List ℕ) (count : ℕ) (c : Cursor) → Spelling s count c c 0
-spelling_start s count c = let z : count ≡ count - 0 = omega arith in record { rest = ap (λ n. letters n s c.end c.at) z; same_end = refl }
-
-letters_none : (n : ℕ) (s : List ℕ) (e p : ℕ) → n ≡ 0 → letters n s e p ≡ got tt p
-unfolding letters give
-letters_none n s e p h = ap (λ k. letters k s e p) h
-
--- one letter, and those behind it
-letters_turn : (n k : ℕ) (s : List ℕ) (e p : ℕ) → n ≡ suc k → letters n s e p ≡ (vbr 6 >>= (λ v. require (leb v 255) value_overflow >>= (λ u. letters k))) s e p
-unfolding letters
-letters_turn n k s e p h = ap (λ m. letters m s e p) h
-
-module _ {s : List ℕ} {count : ℕ} {c₀ c : Cursor} {i : ℕ} (g : Spelling s count c₀ c i) where
-  pub spelling_end : count ≤ i → At (letters count) s c₀.end c₀.at tt c
-  spelling_end h = record { gives = g.rest ∙ letters_none (count - i) s c.end c.at (omega arith); ends = g.same_end }
-
-  module _ (h : i < count) where
-    spelling_turn : letters count s c₀.end c₀.at ≡ (vbr 6 >>= (λ v. require (leb v 255) value_overflow >>= (λ u. letters (count - (i + 1))))) s c.end c.at
-    spelling_turn = g.rest ∙ letters_turn (count - i) (count - (i + 1)) s c.end c.at (omega arith)
-
-    pub spelling_refused : {r : No} → Off (vbr 6) s c.end c.at r → Off (letters count) s c₀.end c₀.at r
-    spelling_refused o = record { why = spelling_turn ∙ so_off (vbr 6) _ s c.end c.at o.why }
-
-    module _ {v : ℕ} {d : Cursor} (x : At (vbr 6) s c.end c.at v d) where
-      pub spelling_wide : 255 < v → Off (letters count) s c₀.end c₀.at value_overflow
-      spelling_wide k =
-          let o : Off (vbr 6 >>= (λ v. require (leb v 255) value_overflow >>= (λ u. letters (count - (i + 1))))) s c.end c.at value_overflow = then_off _ x (fail _ (lt-leb v 255 k)) in
-          record { why = spelling_turn ∙ o.why }
-
-      pub spelling_more : v ≤ 255 → Spelling s count c₀ d (i + 1)
-      spelling_more k =
-          record {
-            rest =
-                spelling_turn ∙ so (vbr 6) _ s c.end c.at x.gives
-                ∙ pass_so value_overflow (λ u. letters (count - (i + 1))) s c.end d.at (le-leb v 255 k) ∙ ap (λ e. letters (count - (i + 1)) s e d.at) (sym x.ends);
-            same_end = x.ends ∙ g.same_end;
-          }
 
 -- ---- enough turns
 -- two rests of a `do` block that agree on what the first part got
@@ -170,17 +107,13 @@ module _ (row kinds widths : ℕ) (i : row < row_count) (j : row_size * row + ro
   pub undefined_in : {r : No} → Off (define_row row kinds widths) s e p r → Off define s e p r
   undefined_in o = record { why = sym (define_in row kinds widths s e p i j k) ∙ o.why }
 
--- the block that is chosen, if any, as `ok_or` gives it
-module _ {s : List ℕ} (c : Cursor) where
-  pub choice_at : (o : RustOption BlockNumber) {b : BlockNumber} → Ok b ≡ ok_or o MissingSetBid → At (chosen (of_chosen o)) s c.end c.at b.0 c
-  unfolding chosen
-  choice_at None h = cc
-  choice_at (Some a) {b} h = let i : a ≡ b = cc in rw i ends
+-- and so into tables that have all shared rows
+module _ (have : ℕ) {kinds widths : ℕ} (p : (have ≤ 32) × (shared_slots ≤ kinds) × (shared_slots ≤ widths)) {s : List ℕ} {c : Cursor} where
+  pub defined_shared : {a : Abbrev} {d : Cursor} → At (define_row have kinds widths) s c.end c.at a d → At define s c.end c.at a d
+  defined_shared x = defined_in have kinds widths (omega (arith, p.0)) (omega (arith, p.0, p.1)) (omega (arith, p.0, p.2)) x
 
-  pub choice_off : (o : RustOption BlockNumber) {r : Reason} → Err r ≡ ok_or o MissingSetBid → Off (chosen (of_chosen o)) s c.end c.at (no_of r)
-  unfolding chosen stop
-  choice_off None {r} h = let i : r ≡ MissingSetBid = cc in rw i record { why = refl }
-  choice_off (Some b) h = cc
+  pub undefined_shared : {r : No} → Off (define_row have kinds widths) s c.end c.at r → Off define s c.end c.at r
+  undefined_shared o = undefined_in have kinds widths (omega (arith, p.0)) (omega (arith, p.0, p.1)) (omega (arith, p.0, p.2)) o
 
 module _ {s : List ℕ} {c : Cursor} (now : Option ℕ) (have : ℕ) where
   -- no block is chosen

@@ -10,7 +10,7 @@ use lib.Seq.{get_or-set_same, get_or-set_other}
 use lib.Dec.{ltb, leb}
 use borrow.Author.Tests.{le-leb, lt-ltb}
 use Rattle.std.specs.Prelude.{Result, Ok, Err}
-use Rattle.terms.specs.Refusals.{No, no_of}
+use Rattle.terms.specs.Refusals.{No}
 use Rattle.terms.specs.declared.Reason.{Reason}
 use Rattle.bits.specs.Reader.{Answer, got, refused, ◌>>=◌, give, when◌then◌else◌}
 use Rattle.bits.specs.Bits.{vbr}

@@ -273,10 +273,13 @@ fn read_set_bid(c: Cursor, s: &[u8], count: u64) -> Result<(Option<BlockNumber>,
     if count != 1 {
         return Err(Reason::InvalidBlockInfoRecord(1));
     }
-    match c.read_vbr(s, 6) {
-        Ok((b, d)) if b < 0x1_0000_0000 => Ok((Some(BlockNumber(b)), d)),
-        _ => Err(Reason::InvalidBlockInfoRecord(1)),
+    let (b, d) = c
+        .read_vbr(s, 6)
+        .map_err(|_| Reason::InvalidBlockInfoRecord(1))?;
+    if 0x1_0000_0000 <= b {
+        return Err(Reason::InvalidBlockInfoRecord(1));
     }
+    Ok((Some(BlockNumber(b)), d))
 }
 
 // BLOCKNAME: letters, for the block that is chosen.
@@ -306,9 +309,9 @@ fn read_record_name(
     if count == 0 {
         return Err(Reason::InvalidBlockInfoRecord(3));
     }
-    let Ok((_, d)) = c.read_vbr(s, 6) else {
-        return Err(Reason::InvalidBlockInfoRecord(3));
-    };
+    let (_, d) = c
+        .read_vbr(s, 6)
+        .map_err(|_| Reason::InvalidBlockInfoRecord(3))?;
     let e = read_letters(d, s, count - 1)?;
     Ok((chosen, e))
 }
@@ -451,11 +454,11 @@ pub fn shared_rows(block: BlockNumber, owners: &[u64], shared: usize, rows: &mut
 {
     let many = shared.min(MAX_SHARED).min(owners.len());
     let mut k = 0;
-    for j in 0..many {
+    for (j, owner) in owners[..many].iter().enumerate() {
         if rows.len() <= k {
             return k;
         }
-        if BlockNumber(owners[j]) == block {
+        if BlockNumber(*owner) == block {
             rows[k] = j as u8;
             k += 1;
         }

@@ -1,8 +1,6 @@
 -- `abbrev::read_block_info_block` meets its contract: the items, where the tests say that the tables have all shared rows. Assumes nothing.
 use mathlib.Core.Logic.{⊎_elim}
-use mathlib.Core.Path.{◌∙◌, sym, ap}
 use native.Mathlib.Omega.{arith}
-use Rattle.bits.specs.Reader.{refused}
 use Rattle.abbrev.specs.Tables.{tables}
 use Rattle.abbrev.proofs.Infos.{info_unfit, info_is}
 use Rattle.abbrev.proofs.read_block_info_block.Goals as goal

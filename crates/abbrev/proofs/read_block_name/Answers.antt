@@ -2,7 +2,7 @@
 use Rattle.bits.proofs.Steps.{on, then_off, off, ends, handed_on}
 use Rattle.abbrev.specs.BlockInfo.{block_name}
 use Rattle.abbrev.specs.Tables.{of_named}
-use Rattle.abbrev.proofs.Infos.{choice_at, choice_off}
+use Rattle.abbrev.proofs.Records.{choice_at, choice_off}
 use Rattle.abbrev.proofs.read_block_name.Goals as goal
 
 pub returns-in_err-ok_or : goal.returns-in_err-ok_or

@@ -1,9 +1,8 @@
 -- `abbrev::read_info_definition` meets its contract: a definition behind the choice of a block, and room for it. Assumes nothing.
-use Prim.Native.Nat.{◌*◌}
-use native.Mathlib.Omega.{arith}
 use Rattle.bits.proofs.Steps.{handed}
 use Rattle.abbrev.specs.Tables.{InfoDoes}
-use Rattle.abbrev.proofs.Infos.{defined_in, undefined_in, choice_at, choice_off, definition_unchosen, definition_off, definition_full, definition_adds}
+use Rattle.abbrev.proofs.Infos.{defined_shared, undefined_shared, definition_unchosen, definition_off, definition_full, definition_adds}
+use Rattle.abbrev.proofs.Records.{choice_at, choice_off}
 use Rattle.abbrev.proofs.read_info_definition.Goals as goal
 
 pub returns-in_err-block-clause-does : goal.returns-in_err-block-clause-does
@@ -16,23 +15,17 @@ pub returns-in_err-shape-clause-does : goal.returns-in_err-shape-clause-does
 returns-in_err-shape-clause-does c =
     let a = c.args in
     let n = c.define_abbrev.new in
-    let p = c.requires in
     handed (InfoDoes _ _ _ n.kinds n.widths a.have) _ c.from_residual-in_err-shape.ensures.1
-    (definition_off _ _ (choice_at a.c a.chosen c.in_ok-block.ensures.value)
-    (undefined_in a.have _ _ (omega arith) (omega (arith, p.0, p.1)) (omega (arith, p.0, p.2)) c.in_err-shape.ensures.gives))
+    (definition_off _ _ (choice_at a.c a.chosen c.in_ok-block.ensures.value) (undefined_shared _ c.requires c.in_err-shape.ensures.gives))
 
 pub returns-then-have-ge-MAX_SHARED-clause-does : goal.returns-then-have-ge-MAX_SHARED-clause-does
 returns-then-have-ge-MAX_SHARED-clause-does c =
     let a = c.args in
-    let p = c.requires in
     definition_full _ _ (choice_at a.c a.chosen c.in_ok-block.ensures.value)
-    (defined_in a.have _ _ (omega arith) (omega (arith, p.0, p.1)) (omega (arith, p.0, p.2)) c.in_ok-shape.ensures.gives) c.if-have-ge-MAX_SHARED.true
+    (defined_shared _ c.requires c.in_ok-shape.ensures.gives) c.if-have-ge-MAX_SHARED.true
 
 pub returns-clause-does : goal.returns-clause-does
 returns-clause-does c =
     let a = c.args in
-    let p = c.requires in (
-      definition_adds _ _ (choice_at a.c a.chosen c.in_ok-block.ensures.value)
-          (defined_in a.have _ _ (omega arith) (omega (arith, p.0, p.1)) (omega (arith, p.0, p.2)) c.in_ok-shape.ensures.gives) c.if-have-ge-MAX_SHARED.false,
-      c.if-have-ge-MAX_SHARED.false,
-    )
+    let l = c.if-have-ge-MAX_SHARED.false in
+    (definition_adds _ _ (choice_at a.c a.chosen c.in_ok-block.ensures.value) (defined_shared _ c.requires c.in_ok-shape.ensures.gives) l, l)

@@ -2,11 +2,8 @@
 use native.Mathlib.Omega.{arith}
 use Rattle.bits.specs.Told.{of_move}
 use Rattle.bits.proofs.Steps.{handed_on}
-use Rattle.abbrev.proofs.Infos.{spelling_start, spelling_end, spelling_refused, spelling_wide, spelling_more}
+use Rattle.abbrev.proofs.Records.{spelling_end, spelling_refused, spelling_wide, spelling_more}
 use Rattle.abbrev.proofs.read_letters.Goals as goal
-
-pub loop-init : goal.loop-init
-loop-init c = spelling_start _ _ _
 
 pub returns-in_err-letter : goal.returns-in_err-letter
 returns-in_err-letter c =

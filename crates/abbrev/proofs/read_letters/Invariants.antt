@@ -1,4 +1,4 @@
-use Rattle.abbrev.proofs.Infos.{Spelling}
+use Rattle.abbrev.proofs.Records.{Spelling}
 use Rattle.abbrev.proofs.read_letters.Given as goal
 
 abbrev pub invariant-loop : goal.invariant-loop
