@@ -3,7 +3,7 @@ ghost use Rattle.std.specs.Prelude.{◌≡◌, true, ◌≤◌, ◌<◌, length,
 ghost use Rattle.exchange.specs.Input.{exchange};
 
 use text::same_bytes;
-use text::scan::{Number, behind_word, decimal, word};
+use text::scan::{behind_word, decimal, word};
 
 // The bytes of the input where the first block begins, where it ends and the second begins, and where the second ends.
 #[derive(Clone, Copy)]
@@ -34,13 +34,13 @@ pub fn places_on(line: &[u8]) -> Exchange {
     let a = behind_word(line);
     let b = behind_word(a);
     let c = behind_word(b);
-    let Number::Is(first) = decimal(word(a)) else {
+    let Some(first) = decimal(word(a)) else {
         return Exchange::Other;
     };
-    let Number::Is(second) = decimal(word(b)) else {
+    let Some(second) = decimal(word(b)) else {
         return Exchange::Other;
     };
-    let Number::Is(end) = decimal(word(c)) else {
+    let Some(end) = decimal(word(c)) else {
         return Exchange::Other;
     };
     Exchange::Asked(Places {

@@ -1,7 +1,7 @@
 // A question, read off its line: `SKIPS EVENTS OPERANDS BYTES`, one space between.
 ghost use Rattle.std.specs.Prelude.{◌<◌, length};
 
-use text::scan::{Count, Number, decimal, find, find_behind, hex, skips};
+use text::scan::{decimal, find, find_behind, hex, skips};
 
 // The most numbers that a store has.
 pub const STORE: usize = 8_192;
@@ -22,30 +22,30 @@ pub enum Scan {
 }
 
 // The size of a store.
-fn size(word: &[u8]) -> Count {
-    let Number::Is(n) = decimal(word) else {
-        return Count::Not;
+fn size(word: &[u8]) -> Option<usize> {
+    let Some(n) = decimal(word) else {
+        return None;
     };
     if (STORE as u64) < n {
-        return Count::Not;
+        return None;
     }
-    Count::Is(n as usize)
+    Some(n as usize)
 }
 
 // A question whose words end at these places.
 fn from_words(line: &[u8], list: &mut [u64], bytes: &mut [u8], a: usize, b: usize, c: usize) -> Scan
     requires { (a < b) × (b < c) × (c < length line.now) }
 {
-    let Count::Is(skipped) = skips(&line[0..a], list) else {
+    let Some(skipped) = skips(&line[0..a], list) else {
         return Scan::Other;
     };
-    let Count::Is(events) = size(&line[a + 1..b]) else {
+    let Some(events) = size(&line[a + 1..b]) else {
         return Scan::Other;
     };
-    let Count::Is(operands) = size(&line[b + 1..c]) else {
+    let Some(operands) = size(&line[b + 1..c]) else {
         return Scan::Other;
     };
-    let Count::Is(count) = hex(&line[c + 1..], bytes) else {
+    let Some(count) = hex(&line[c + 1..], bytes) else {
         return Scan::Other;
     };
     Scan::Asked(Question {
