@@ -5,7 +5,7 @@ ghost use Rattle.replay.specs.Answer.{answered, Holds};
 
 use crate::answer::put_answer;
 use text::{front, same_bytes};
-use walk::walk;
+use walk::{Walked, walk};
 
 // How much of its buffer our answer takes, and whether the list has the same.
 #[derive(Clone, Copy)]
@@ -24,7 +24,7 @@ fn put_ours(
 ) -> usize
     ensures { Puts ours.old ours.new 0 result (answered input.now skip.now (length events.old) (length operands.old)) }
 {
-    let w = walk(input, skip, events, operands);
+    let w = Walked::from(walk(input, skip, events, operands));
     put_answer(ours, 0, w, events, operands, input)
 }
 

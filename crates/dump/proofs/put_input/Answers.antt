@@ -10,4 +10,4 @@ returns-then-input-gt-MOST c = rw (lt-ltb 65536 _ c.if-input-gt-MOST.true) (rw c
 
 pub returns : goal.returns
 unfolding dumped shown when◌then◌else◌
-returns c = rw (le-ltb 65536 _ c.if-input-gt-MOST.false) (rw (c.walk-w.ensures.answer, c.walk-w.ensures.events, c.walk-w.ensures.operands) at c.put_dump.ensures)
+returns c = rw (le-ltb 65536 _ c.if-input-gt-MOST.false) (rw (c.from-w.ensures, c.walk.ensures.answer, c.walk.ensures.events, c.walk.ensures.operands) at c.put_dump.ensures)

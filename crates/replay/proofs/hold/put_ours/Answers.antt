@@ -4,4 +4,4 @@ use Rattle.replay.proofs.hold.put_ours.Goals as goal
 
 pub returns : goal.returns
 unfolding text_of answered
-returns c = rw (c.walk-w.ensures.answer, c.walk-w.ensures.events, c.walk-w.ensures.operands) at c.put_answer.ensures
+returns c = rw (c.from-w.ensures, c.walk.ensures.answer, c.walk.ensures.events, c.walk.ensures.operands) at c.put_answer.ensures
