@@ -1,8 +1,7 @@
 // An exchange, read off its line: `exchange I J K` and one space before the words of the other question; and the bytes exchanged.
-ghost use Rattle.std.specs.Prelude.{◌≡◌, true, ◌≤◌, ◌<◌, length, get_or, take};
+ghost use Rattle.std.specs.Prelude.{◌≡◌, ◌≤◌, length, IfSome};
 ghost use Rattle.exchange.specs.Input.{exchange};
 
-use text::same_bytes;
 use text::scan::{Number, behind_word, decimal, word};
 
 // The bytes of the input where the first block begins, where it ends and the second begins, and where the second ends.
@@ -13,15 +12,9 @@ pub struct Places {
     pub end: usize,
 }
 
-#[derive(Clone, Copy)]
-pub enum Exchange {
-    Asked(Places),
-    Other,
-}
-
 // Whether a line asks for an exchange: that is its first word.
 pub fn is_exchange(line: &[u8]) -> bool {
-    same_bytes(word(line), b"exchange")
+    word(line) == b"exchange".as_slice()
 }
 
 // The words of the other question, behind the first four words of an exchange.
@@ -29,72 +22,46 @@ pub fn behind_places(line: &[u8]) -> &[u8] {
     behind_word(behind_word(behind_word(behind_word(line))))
 }
 
+// A place, read off the first of some words.
+fn place_on(words: &[u8]) -> Option<usize> {
+    match decimal(word(words)) {
+        Number::Is(n) => Some(n as usize),
+        Number::Not => None,
+    }
+}
+
 // The places that an exchange tells: its second, third and fourth word.
-pub fn places_on(line: &[u8]) -> Exchange {
+pub fn places_on(line: &[u8]) -> Option<Places> {
     let a = behind_word(line);
     let b = behind_word(a);
     let c = behind_word(b);
-    let Number::Is(first) = decimal(word(a)) else {
-        return Exchange::Other;
-    };
-    let Number::Is(second) = decimal(word(b)) else {
-        return Exchange::Other;
-    };
-    let Number::Is(end) = decimal(word(c)) else {
-        return Exchange::Other;
-    };
-    Exchange::Asked(Places {
-        first: first as usize,
-        second: second as usize,
-        end: end as usize,
+    Some(Places {
+        first: place_on(a)?,
+        second: place_on(b)?,
+        end: place_on(c)?,
     })
 }
 
-// The byte at the place x of the input with its bytes i to j and j to k exchanged.
-fn exchanged_byte(input: &[u8], i: usize, j: usize, k: usize, x: usize) -> u8
-    requires { (i ≤ j) × (j ≤ k) × (k ≤ length input.now) × (x < length input.now) }
-    ensures { result ≡ get_or (exchange i j k input.now) x 0 }
-{
-    if x < i {
-        return input[x];
-    }
-    if x < i + (k - j) {
-        return input[x + (j - i)];
-    }
-    if x < k {
-        return input[x - (k - j)];
-    }
-    input[x]
-}
-
-// Fills a buffer from its first byte on with the input whose bytes i to j and j to k are exchanged.
+// Fills a buffer with the input whose bytes i to j and j to k are exchanged.
 fn fill_exchanged(input: &[u8], i: usize, j: usize, k: usize, bytes: &mut [u8])
-    requires { (i ≤ j) × (j ≤ k) × (k ≤ length input.now) × (length input.now ≤ length bytes.old) }
-    ensures { take (length input.now) bytes.new ≡ exchange i j k input.now }
+    requires { (i ≤ j) × (j ≤ k) × (k ≤ length input.now) × (length input.now ≡ length bytes.old) }
+    ensures { bytes.new ≡ exchange i j k input.now }
 {
-    let mut x = 0;
-    while x < input.len() {
-        bytes[x] = exchanged_byte(input, i, j, k, x);
-        x += 1;
-    }
+    bytes.copy_from_slice(input);
+    bytes[i..k].rotate_left(j - i);
 }
 
-// Fills a buffer with the exchanged input, if the input has such places and the buffer holds it; and tells whether that is so.
-pub fn exchange_into(input: &[u8], p: Places, bytes: &mut [u8]) -> bool
-    ensures { result ≡ true → take (length input.now) bytes.new ≡ exchange p.first p.second p.end input.now }
+// The exchanged input, in the front of a buffer, if the input has such places and the buffer holds it.
+pub fn exchange_into<'a>(input: &[u8], p: Places, bytes: &'a mut [u8]) -> Option<&'a [u8]>
+    ensures { IfSome result (λ filled. filled.now ≡ exchange p.first p.second p.end input.now) }
 {
-    if p.second < p.first {
-        return false;
-    }
-    if p.end < p.second {
-        return false;
-    }
-    if input.len() < p.end {
-        return false;
+    if p.second < p.first || p.end < p.second || input.len() < p.end {
+        return None;
     }
     if bytes.len() < input.len() {
-        return false;
+        return None;
     }
-    fill_exchanged(input, p.first, p.second, p.end, bytes);
-    true
+    let filled = &mut bytes[..input.len()];
+    fill_exchanged(input, p.first, p.second, p.end, filled);
+    Some(filled)
 }

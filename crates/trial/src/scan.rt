@@ -1,68 +1,74 @@
 // A question, read off its line: `SKIPS EVENTS OPERANDS BYTES`, one space between.
-ghost use Rattle.std.specs.Prelude.{◌<◌, length};
+ghost use Rattle.std.specs.Prelude.{◌<◌, ◌≤◌, length, IfSome};
 
+use text::front;
 use text::scan::{Count, Number, decimal, find, find_behind, hex, skips};
+use text::store::numbers_of;
 
 // The most numbers that a store has.
 pub const STORE: usize = 8_192;
 
-// How many numbers are skipped, how many numbers each store has, and how many bytes the input; numbers and bytes go into lent buffers.
+// The block numbers to skip, how many numbers each store has, and the input.
 #[derive(Clone, Copy)]
-pub struct Question {
-    pub skips: usize,
+pub struct Question<'a> {
+    pub skip: &'a [u64],
     pub events: usize,
     pub operands: usize,
-    pub bytes: usize,
-}
-
-#[derive(Clone, Copy)]
-pub enum Scan {
-    Asked(Question),
-    Other,
+    pub input: &'a [u8],
+    ghost fits: { (events ≤ 8192) × (operands ≤ 8192) },
 }
 
 // The size of a store.
-fn size(word: &[u8]) -> Count {
+fn size(word: &[u8]) -> Option<usize>
+    ensures { IfSome result (λ n. n ≤ 8192) }
+{
     let Number::Is(n) = decimal(word) else {
-        return Count::Not;
+        return None;
     };
     if (STORE as u64) < n {
-        return Count::Not;
+        return None;
     }
-    Count::Is(n as usize)
+    Some(n as usize)
 }
 
 // A question whose words end at these places.
-fn from_words(line: &[u8], list: &mut [u64], bytes: &mut [u8], a: usize, b: usize, c: usize) -> Scan
+fn from_words<'a>(
+    line: &[u8],
+    list: &'a mut [u64],
+    bytes: &'a mut [u8],
+    a: usize,
+    b: usize,
+    c: usize,
+) -> Option<Question<'a>>
     requires { (a < b) × (b < c) × (c < length line.now) }
 {
     let Count::Is(skipped) = skips(&line[0..a], list) else {
-        return Scan::Other;
+        return None;
     };
-    let Count::Is(events) = size(&line[a + 1..b]) else {
-        return Scan::Other;
-    };
-    let Count::Is(operands) = size(&line[b + 1..c]) else {
-        return Scan::Other;
-    };
+    let events = size(&line[a + 1..b])?;
+    let operands = size(&line[b + 1..c])?;
     let Count::Is(count) = hex(&line[c + 1..], bytes) else {
-        return Scan::Other;
+        return None;
     };
-    Scan::Asked(Question {
-        skips: skipped,
+    Some(Question {
+        skip: numbers_of(list, 0, skipped as u64),
         events,
         operands,
-        bytes: count,
+        input: front(bytes, count),
     })
 }
 
 // The question on a line: the numbers to skip go into the list, the input into the bytes.
-pub fn question_on(line: &[u8], list: &mut [u64], bytes: &mut [u8]) -> Scan {
+pub fn question_on<'a>(
+    line: &[u8],
+    list: &'a mut [u64],
+    bytes: &'a mut [u8],
+) -> Option<Question<'a>> {
     let a = find(line, 0, b' ');
     let b = find_behind(line, a, b' ');
     let c = find_behind(line, b, b' ');
     if line.len() <= c {
-        return Scan::Other;
+        return None;
     }
     from_words(line, list, bytes, a, b, c)
 }
