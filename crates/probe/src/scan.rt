@@ -1,7 +1,7 @@
 // A question, read off its line: `OP N AT END BYTES`, one space between, BYTES two hex digits a byte and `-` for none.
 ghost use Rattle.std.specs.Prelude.{◌≤◌, ◌<◌, length};
 
-use text::scan::{Count, Number, decimal, find, find_behind, hex};
+use text::scan::{decimal, find, find_behind, hex};
 
 // What is asked, and how many bytes come with it; these go into a lent buffer.
 #[derive(Clone, Copy)]
@@ -23,16 +23,16 @@ pub enum Scan {
 fn from_words(line: &[u8], bytes: &mut [u8], b: usize, c: usize, d: usize) -> Scan
     requires { (2 ≤ b) × (b < c) × (c < d) × (d < length line.now) }
 {
-    let Number::Is(n) = decimal(&line[2..b]) else {
+    let Some(n) = decimal(&line[2..b]) else {
         return Scan::Other;
     };
-    let Number::Is(at) = decimal(&line[b + 1..c]) else {
+    let Some(at) = decimal(&line[b + 1..c]) else {
         return Scan::Other;
     };
-    let Number::Is(end) = decimal(&line[c + 1..d]) else {
+    let Some(end) = decimal(&line[c + 1..d]) else {
         return Scan::Other;
     };
-    let Count::Is(count) = hex(&line[d + 1..], bytes) else {
+    let Some(count) = hex(&line[d + 1..], bytes) else {
         return Scan::Other;
     };
     Scan::Asked(Question {

@@ -24,7 +24,7 @@ mod hold;
 mod scan;
 
 use hold::held;
-use scan::{Scan, answer_on, question_on};
+use scan::{answer_on, question_on};
 use text::feed::{Line, flush, made_room, zeros};
 use text::scan::{MOST_SKIPS, is_asking};
 use text::store::numbers_of;
@@ -122,8 +122,8 @@ fn ask(
     let mut list = [0u64; MOST_SKIPS];
     let mut bytes = [0u8; INPUT];
     match question_on(line, &mut list, &mut bytes) {
-        Scan::Other => put_other(out, t, line),
-        Scan::Asked(q) => judge(
+        None => put_other(out, t, line),
+        Some(q) => judge(
             out,
             t,
             line,

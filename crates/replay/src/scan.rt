@@ -1,5 +1,5 @@
 // A line of the list, taken apart: `SKIPS BYTES ANSWER`, one space between.
-use text::scan::{Count, behind_word, hex, skips, word};
+use text::scan::{behind_word, hex, skips, word};
 
 // How many numbers are skipped, and how many bytes the input has; both go into lent buffers.
 #[derive(Clone, Copy)]
@@ -8,30 +8,19 @@ pub struct Question {
     pub bytes: usize,
 }
 
-#[derive(Clone, Copy)]
-pub enum Scan {
-    Asked(Question),
-    Other,
-}
-
 // The answer on a line: all that stands behind the second space.
 pub fn answer_on(line: &[u8]) -> &[u8] {
     behind_word(behind_word(line))
 }
 
 // The question on a line that has an answer too: the numbers to skip go into the list, the input into the bytes.
-pub fn question_on(line: &[u8], list: &mut [u64], bytes: &mut [u8]) -> Scan {
-    let Count::Is(skipped) = skips(word(line), list) else {
-        return Scan::Other;
+pub fn question_on(line: &[u8], list: &mut [u64], bytes: &mut [u8]) -> Option<Question> {
+    let question = Question {
+        skips: skips(word(line), list)?,
+        bytes: hex(word(behind_word(line)), bytes)?,
     };
-    let Count::Is(count) = hex(word(behind_word(line)), bytes) else {
-        return Scan::Other;
-    };
-    if answer_on(line).len() == 0 {
-        return Scan::Other;
+    if answer_on(line).is_empty() {
+        return None;
     }
-    Scan::Asked(Question {
-        skips: skipped,
-        bytes: count,
-    })
+    Some(question)
 }

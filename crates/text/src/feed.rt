@@ -49,14 +49,10 @@ fn to_front(text: &mut [u8], from: usize, end: usize) -> usize
     requires { end ≤ length text.old }
     ensures { result ≤ end }
 {
-    let mut n = 0;
-    let mut i = from;
-    while i < end {
-        text[n] = text[i];
-        n += 1;
-        i += 1;
+    if from < end {
+        text.copy_within(from..end, 0);
     }
-    n
+    end.saturating_sub(from)
 }
 
 // Reads behind the first n bytes; tells where what is read ends.
@@ -131,10 +127,8 @@ pub fn flush(out: &[u8], fill: usize) -> usize
 pub fn made_room(out: &[u8], fill: usize, more: usize) -> usize
     ensures { more ≤ length out.now → result + more ≤ length out.now }
 {
-    if fill <= out.len() {
-        if more <= out.len() - fill {
-            return fill;
-        }
+    if fill <= out.len() && more <= out.len() - fill {
+        return fill;
     }
     flush(out, fill)
 }

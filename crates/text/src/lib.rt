@@ -31,17 +31,7 @@ pub fn front(s: &[u8], n: usize) -> &[u8]
 pub fn same_bytes(a: &[u8], b: &[u8]) -> bool
     ensures { Tells result a.now b.now }
 {
-    if a.len() != b.len() {
-        return false;
-    }
-    let mut i = 0;
-    while i < a.len() {
-        if a[i] != b[i] {
-            return false;
-        }
-        i += 1;
-    }
-    true
+    a == b
 }
 
 pub fn put_byte(out: &mut [u8], fill: usize, b: u8) -> usize
@@ -58,10 +48,8 @@ pub fn put_bytes(out: &mut [u8], fill: usize, s: &[u8]) -> usize
     ensures { Puts out.old out.new fill result s.now }
 {
     let mut at = fill;
-    let mut i = 0;
-    while i < s.len() {
-        at = put_byte(out, at, s[i]);
-        i += 1;
+    for b in s {
+        at = put_byte(out, at, *b);
     }
     at
 }
@@ -130,10 +118,8 @@ pub fn put_pairs(out: &mut [u8], fill: usize, s: &[u8]) -> usize
     ensures { Puts out.old out.new fill result (pairs s.now) }
 {
     let mut at = fill;
-    let mut i = 0;
-    while i < s.len() {
-        at = put_pair(out, at, s[i]);
-        i += 1;
+    for b in s {
+        at = put_pair(out, at, *b);
     }
     at
 }
@@ -164,10 +150,8 @@ pub fn put_numbers(out: &mut [u8], fill: usize, numbers: &[u64]) -> usize
     ensures { Puts out.old out.new fill result (items 0 numbers.now) }
 {
     let mut at = fill;
-    let mut i = 0;
-    while i < numbers.len() {
-        at = put_item(out, at, i, numbers[i]);
-        i += 1;
+    for (i, v) in numbers.iter().enumerate() {
+        at = put_item(out, at, i, *v);
     }
     at
 }

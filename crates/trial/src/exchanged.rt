@@ -2,7 +2,7 @@
 ghost use Rattle.std.specs.Prelude.{◌≡◌, ◌≤◌, length, IfSome};
 ghost use Rattle.exchange.specs.Input.{exchange};
 
-use text::scan::{Number, behind_word, decimal, word};
+use text::scan::{behind_word, decimal, word};
 
 // The bytes of the input where the first block begins, where it ends and the second begins, and where the second ends.
 #[derive(Clone, Copy)]
@@ -22,23 +22,15 @@ pub fn behind_places(line: &[u8]) -> &[u8] {
     behind_word(behind_word(behind_word(behind_word(line))))
 }
 
-// A place, read off the first of some words.
-fn place_on(words: &[u8]) -> Option<usize> {
-    match decimal(word(words)) {
-        Number::Is(n) => Some(n as usize),
-        Number::Not => None,
-    }
-}
-
 // The places that an exchange tells: its second, third and fourth word.
 pub fn places_on(line: &[u8]) -> Option<Places> {
     let a = behind_word(line);
     let b = behind_word(a);
     let c = behind_word(b);
     Some(Places {
-        first: place_on(a)?,
-        second: place_on(b)?,
-        end: place_on(c)?,
+        first: decimal(word(a))? as usize,
+        second: decimal(word(b))? as usize,
+        end: decimal(word(c))? as usize,
     })
 }
 
@@ -58,10 +50,7 @@ pub fn exchange_into<'a>(input: &[u8], p: Places, bytes: &'a mut [u8]) -> Option
     if p.second < p.first || p.end < p.second || input.len() < p.end {
         return None;
     }
-    if bytes.len() < input.len() {
-        return None;
-    }
-    let filled = &mut bytes[..input.len()];
+    let filled = bytes.get_mut(..input.len())?;
     fill_exchanged(input, p.first, p.second, p.end, filled);
     Some(filled)
 }

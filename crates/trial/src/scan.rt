@@ -2,7 +2,7 @@
 ghost use Rattle.std.specs.Prelude.{◌<◌, ◌≤◌, length, IfSome};
 
 use text::front;
-use text::scan::{Count, Number, decimal, find, find_behind, hex, skips};
+use text::scan::{decimal, find, find_behind, hex, skips};
 use text::store::numbers_of;
 
 // The most numbers that a store has.
@@ -22,13 +22,8 @@ pub struct Question<'a> {
 fn size(word: &[u8]) -> Option<usize>
     ensures { IfSome result (λ n. n ≤ 8192) }
 {
-    let Number::Is(n) = decimal(word) else {
-        return None;
-    };
-    if (STORE as u64) < n {
-        return None;
-    }
-    Some(n as usize)
+    let n = decimal(word)? as usize;
+    if n <= STORE { Some(n) } else { None }
 }
 
 // A question whose words end at these places.
@@ -42,14 +37,10 @@ fn from_words<'a>(
 ) -> Option<Question<'a>>
     requires { (a < b) × (b < c) × (c < length line.now) }
 {
-    let Count::Is(skipped) = skips(&line[0..a], list) else {
-        return None;
-    };
+    let skipped = skips(&line[0..a], list)?;
     let events = size(&line[a + 1..b])?;
     let operands = size(&line[b + 1..c])?;
-    let Count::Is(count) = hex(&line[c + 1..], bytes) else {
-        return None;
-    };
+    let count = hex(&line[c + 1..], bytes)?;
     Some(Question {
         skip: numbers_of(list, 0, skipped as u64),
         events,
