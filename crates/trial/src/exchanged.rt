@@ -1,8 +1,8 @@
-// An exchange, read off its line: `exchange I J K` and one space before the words of the other question; and the bytes exchanged.
+// An exchange, read off the words behind `exchange `: `I J K` and one space before the words of the other question; and the bytes exchanged.
 ghost use Rattle.std.specs.Prelude.{◌≡◌, ◌≤◌, length, IfSome};
 ghost use Rattle.exchange.specs.Input.{exchange};
 
-use text::scan::{behind_word, decimal, word};
+use text::scan::decimal;
 
 // The bytes of the input where the first block begins, where it ends and the second begins, and where the second ends.
 #[derive(Clone, Copy)]
@@ -12,26 +12,15 @@ pub struct Places {
     pub end: usize,
 }
 
-// Whether a line asks for an exchange: that is its first word.
-pub fn is_exchange(line: &[u8]) -> bool {
-    word(line) == b"exchange".as_slice()
-}
-
-// The words of the other question, behind the first four words of an exchange.
-pub fn behind_places(line: &[u8]) -> &[u8] {
-    behind_word(behind_word(behind_word(behind_word(line))))
-}
-
-// The places that an exchange tells: its second, third and fourth word.
-pub fn places_on(line: &[u8]) -> Option<Places> {
-    let a = behind_word(line);
-    let b = behind_word(a);
-    let c = behind_word(b);
-    Some(Places {
-        first: decimal(word(a))? as usize,
-        second: decimal(word(b))? as usize,
-        end: decimal(word(c))? as usize,
-    })
+// The exchange that some words ask for: its places, and the words of the other question.
+pub fn exchange_on(words: &[u8]) -> Option<(Places, &[u8])> {
+    let mut words = words.splitn(4, |letter| *letter == b' ');
+    let places = Places {
+        first: decimal(words.next()?)? as usize,
+        second: decimal(words.next()?)? as usize,
+        end: decimal(words.next()?)? as usize,
+    };
+    Some((places, words.next()?))
 }
 
 // Fills a buffer with the input whose bytes i to j and j to k are exchanged.

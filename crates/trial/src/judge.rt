@@ -1,5 +1,5 @@
 // The answer to an exchange: both inputs walked, and what the walks tell held against demand 3.
-use crate::exchanged::{Places, behind_places, exchange_into, places_on};
+use crate::exchanged::{Places, exchange_into, exchange_on};
 use crate::plan::Plan;
 use crate::scan::{Question, question_on};
 use crate::side::{Side, Stores};
@@ -68,13 +68,13 @@ fn verdict_on(p: Places, q: Question<'_>, exchanged: &[u8]) -> Verdict {
     compared(p, was, is)
 }
 
-// The verdict on the exchange that a line asks for, and None where it asks for none.
-fn asked(line: &[u8]) -> Option<Verdict> {
+// The verdict on the exchange that some words ask for, and None where they ask for none or the input has no such places.
+fn asked(words: &[u8]) -> Option<Verdict> {
     let mut list = [0u64; MOST_SKIPS];
     let mut bytes = io::buffer();
     let mut exchanged = io::buffer();
-    let places = places_on(line)?;
-    let question = question_on(behind_places(line), &mut list, &mut bytes)?;
+    let (places, line) = exchange_on(words)?;
+    let question = question_on(line, &mut list, &mut bytes)?;
     let other = exchange_into(question.input, places, &mut exchanged)?;
     Some(verdict_on(places, question, other))
 }
@@ -112,9 +112,9 @@ fn put_verdict(out: &mut [u8], fill: usize, verdict: Verdict) -> usize {
     }
 }
 
-// The answer to a line whose first word is `exchange`, and `?` where it asks for no exchange or the input has no such places.
-pub fn put_exchange(out: &mut [u8], fill: usize, line: &[u8]) -> usize {
-    match asked(line) {
+// The answer to the words behind `exchange `, and `?` where they ask for no exchange or the input has no such places.
+pub fn put_exchange(out: &mut [u8], fill: usize, words: &[u8]) -> usize {
+    match asked(words) {
         None => put_bytes(out, fill, b"?\n"),
         Some(verdict) => put_verdict(out, fill, verdict),
     }

@@ -29,7 +29,6 @@ mod side;
 
 ghost use Rattle.std.specs.Prelude.{◌≤◌};
 
-use exchanged::is_exchange;
 use judge::put_exchange;
 use scan::{Question, question_on};
 use side::{Side, Stores};
@@ -56,8 +55,8 @@ fn put_asked(out: &mut [u8], fill: usize, q: Question<'_>) -> usize {
 
 // The answer to a line that is neither empty nor a comment.
 fn put_reply(out: &mut [u8], fill: usize, line: &[u8]) -> usize {
-    if is_exchange(line) {
-        return put_exchange(out, fill, line);
+    if let Some(words) = line.strip_prefix(b"exchange ") {
+        return put_exchange(out, fill, words);
     }
     let mut list = [0u64; MOST_SKIPS];
     let mut bytes = io::buffer();

@@ -1,8 +1,8 @@
 // A question, read off its line: `SKIPS EVENTS OPERANDS BYTES`, one space between.
-ghost use Rattle.std.specs.Prelude.{◌<◌, ◌≤◌, length, IfSome};
+ghost use Rattle.std.specs.Prelude.{◌≤◌, IfSome};
 
 use text::front;
-use text::scan::{decimal, find, find_behind, hex, skips};
+use text::scan::{decimal, hex, skips};
 use text::store::numbers_of;
 
 // The most numbers that a store has.
@@ -26,40 +26,21 @@ fn size(word: &[u8]) -> Option<usize>
     if n <= STORE { Some(n) } else { None }
 }
 
-// A question whose words end at these places.
-fn from_words<'a>(
-    line: &[u8],
-    list: &'a mut [u64],
-    bytes: &'a mut [u8],
-    a: usize,
-    b: usize,
-    c: usize,
-) -> Option<Question<'a>>
-    requires { (a < b) × (b < c) × (c < length line.now) }
-{
-    let skipped = skips(&line[0..a], list)?;
-    let events = size(&line[a + 1..b])?;
-    let operands = size(&line[b + 1..c])?;
-    let count = hex(&line[c + 1..], bytes)?;
-    Some(Question {
-        skip: numbers_of(list, 0, skipped as u64),
-        events,
-        operands,
-        input: front(bytes, count),
-    })
-}
-
 // The question on a line: the numbers to skip go into the list, the input into the bytes.
 pub fn question_on<'a>(
     line: &[u8],
     list: &'a mut [u64],
     bytes: &'a mut [u8],
 ) -> Option<Question<'a>> {
-    let a = find(line, 0, b' ');
-    let b = find_behind(line, a, b' ');
-    let c = find_behind(line, b, b' ');
-    if line.len() <= c {
-        return None;
-    }
-    from_words(line, list, bytes, a, b, c)
+    let mut words = line.splitn(4, |letter| *letter == b' ');
+    let skipped = skips(words.next()?, list)?;
+    let events = size(words.next()?)?;
+    let operands = size(words.next()?)?;
+    let count = hex(words.next()?, bytes)?;
+    Some(Question {
+        skip: numbers_of(list, 0, skipped as u64),
+        events,
+        operands,
+        input: front(bytes, count),
+    })
 }
