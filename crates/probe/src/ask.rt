@@ -27,6 +27,11 @@ fn read<'a>((value, behind): (u64, Cursor)) -> Answer<'a> {
     Answer::Read(Value::Number(value), behind.at)
 }
 
+// A part, and what is behind it.
+fn parts<'a>((part, behind): (Cursor, Cursor)) -> Answer<'a> {
+    Answer::Parts(part, behind)
+}
+
 // An operand of a type that is a number, and the place of the operands behind it.
 fn next<'a, T: Into<u64>>((value, rest): (T, Operands)) -> Answer<'a> {
     Answer::Read(Value::Number(value.into()), rest.at)
@@ -49,10 +54,7 @@ pub fn answer_to(q: Question<'_>) -> Result<Answer<'_>, u64> {
         Call::Align32 => Answer::To(told_move(c.align32(s))?.at),
         Call::SkipBytes => Answer::To(told_move(c.skip_bytes(s, n))?.at),
         Call::ReadBytes => Answer::Bytes(c.read_bytes(s, n)),
-        Call::TakeSlice => {
-            let (part, behind) = told_take(c.take_slice(s, n))?;
-            Answer::Parts(part, behind)
-        }
+        Call::TakeSlice => parts(told_take(c.take_slice(s, n))?),
         Call::UnconsumedBitLen => Answer::Is(Value::Number(c.unconsumed_bit_len(s))),
         Call::IsAtEnd => Answer::Truth(c.is_at_end(s)),
         Call::Fixed => scalar(c, s, ScalarOperand::Fixed(n))?,

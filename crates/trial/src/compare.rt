@@ -23,7 +23,7 @@ impl Demand {
     pub fn unmoved(event: u64) -> Self {
         Demand {
             event,
-            by: Block::NONE,
+            by: Block::default(),
             direction: Direction::Up,
         }
     }
@@ -37,28 +37,31 @@ impl Demand {
         }
     }
 
-    // By how much the number i of an event moves: in a block's head the place of its body does, in a record the places of its operands and of its payload.
-    fn distance(self, event: Event<'_>, i: usize) -> u64 {
-        match (event.kind(), i) {
-            (ENTER | SKIP, 3) => self.by.bytes,
-            (RECORD, 3) => self.by.operands,
-            (RECORD, 6) => self.payload_distance(event.payload()),
-            _ => 0,
+    // A place, moved so far; None where 64 bits do not hold it.
+    fn moved(self, place: u64, distance: u64) -> Option<u64> {
+        match self.direction {
+            Direction::Down => place.checked_sub(distance),
+            Direction::Up => place.checked_add(distance),
         }
     }
 
-    // Whether the number i of an event is that of an old one, moved.
-    fn is_number(self, old: Event<'_>, new: Event<'_>, i: usize) -> bool {
-        let distance = self.distance(old, i);
-        match self.direction {
-            Direction::Down => old.number(i).checked_sub(distance) == Some(new.number(i)),
-            Direction::Up => new.number(i).checked_sub(distance) == Some(old.number(i)),
+    // What the numbers of an event are to be: the place of a block's body moves, and in a record the places of its operands and of its payload.
+    fn numbers(self, event: Event<'_>) -> Option<[u64; EVENT_SIZE]> {
+        let mut numbers = event.numbers;
+        match event.kind() {
+            ENTER | SKIP => numbers[3] = self.moved(numbers[3], self.by.bytes)?,
+            RECORD => {
+                numbers[3] = self.moved(numbers[3], self.by.operands)?;
+                numbers[6] = self.moved(numbers[6], self.payload_distance(event.payload()))?;
+            }
+            _ => {}
         }
+        Some(numbers)
     }
 
     // Whether an event of the exchanged input is as demanded: its eight numbers are those of the old one, moved, and what a record has is the same.
     pub fn is_met(self, was: Side<'_>, new: Event<'_>) -> bool {
         let old = was.event(self.event);
-        (0..EVENT_SIZE).all(|i| self.is_number(old, new, i)) && old.has_contents_of(new)
+        self.numbers(old) == Some(new.numbers) && old.has_contents_of(new)
     }
 }

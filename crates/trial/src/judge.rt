@@ -10,7 +10,7 @@ use text::{put_byte, put_bytes, put_named};
 use walk::Walked;
 
 // What is said of an exchange: which of the two inputs is refused; or the first event that is not as demanded, or what else differs.
-#[derive(Drop)]
+#[derive(Clone, Copy)]
 enum Verdict {
     Was(Walked),
     Is(Walked),

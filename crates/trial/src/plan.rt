@@ -2,29 +2,15 @@
 use crate::compare::{Demand, Direction};
 use crate::exchanged::Places;
 use crate::side::Side;
+use std::ops::Range;
 use walk::{ENTER, LEAVE};
 
-// Events that stand one behind the other: the first one, and the one behind the last.
-#[derive(Clone, Copy)]
-struct Group {
-    start: u64,
-    end: u64,
-}
-
 // How many events, bytes and operands a block has.
-#[derive(Clone, Copy)]
+#[derive(Clone, Copy, Default)]
 pub struct Block {
     pub events: u64,
     pub bytes: u64,
     pub operands: u64,
-}
-
-impl Block {
-    pub const NONE: Block = Block {
-        events: 0,
-        bytes: 0,
-        operands: 0,
-    };
 }
 
 // How many events stand before the two blocks and behind them, and what each of them has.
@@ -58,74 +44,58 @@ fn closing(side: Side<'_>, start: u64) -> u64 {
     count
 }
 
-impl Group {
-    // No event, at a place.
-    fn none_at(place: u64) -> Self {
-        Group {
-            start: place,
-            end: place,
-        }
-    }
+// The events of the block that has these bytes of the input; none, behind all events, where no event opens it.
+fn group_of(side: Side<'_>, bytes: &Range<u64>) -> Range<u64> {
+    let count = side.told.events;
+    let opening = (0..count).find(|x| side.opens(*x, bytes));
+    let start = opening.unwrap_or(count);
+    start..closing(side, start)
+}
 
-    // The events of the block that lies in the input from one byte to another: none behind all events where no event opens it.
-    fn of(side: Side<'_>, from: usize, to: usize) -> Self {
-        let count = side.told.events;
-        let opening = (0..count).find(|x| side.opens(*x, from as u64, to as u64));
-        let start = opening.unwrap_or(count);
-        Group {
-            start,
-            end: closing(side, start),
-        }
+// The first group, and where the second begins if it is empty; at 0 if both are.
+fn first_placed(first: Range<u64>, second: &Range<u64>) -> Range<u64> {
+    if !first.is_empty() {
+        return first;
     }
-
-    fn is_empty(self) -> bool {
-        self.end <= self.start
+    if !second.is_empty() {
+        return second.start..second.start;
     }
+    0..0
+}
 
-    // The first group, and where the second begins if it is empty; at 0 if both are.
-    fn first_placed(self, second: Group) -> Self {
-        if !self.is_empty() {
-            return self;
-        }
-        if !second.is_empty() {
-            return Group::none_at(second.start);
-        }
-        Group::none_at(0)
+// The second group, and where the first ends if it is empty.
+fn second_placed(first: &Range<u64>, second: Range<u64>) -> Range<u64> {
+    if !second.is_empty() {
+        return second;
     }
+    first.end..first.end
+}
 
-    // The second group, and where the first ends if it is empty.
-    fn second_placed(self, first: Group) -> Self {
-        if !self.is_empty() {
-            return self;
-        }
-        Group::none_at(first.end)
-    }
-
-    // The block whose events these are, and that lies in the input from one byte to another.
-    fn block(self, side: Side<'_>, from: usize, to: usize) -> Block {
-        Block {
-            events: self.end.saturating_sub(self.start),
-            bytes: to.saturating_sub(from) as u64,
-            operands: (self.start..self.end)
-                .fold(0u64, |sum, x| sum.saturating_add(side.event(x).held())),
-        }
+// What the block has whose events and bytes these are.
+fn block_of(side: Side<'_>, events: &Range<u64>, bytes: &Range<u64>) -> Block {
+    let held = (events.start..events.end).map(|x| side.event(x).held());
+    Block {
+        events: events.end.saturating_sub(events.start),
+        bytes: bytes.end.saturating_sub(bytes.start),
+        operands: held.fold(0u64, |sum, count| sum.saturating_add(count)),
     }
 }
 
 impl Plan {
     // What the exchange of the blocks at these places does with the events of a walk, and None where the two groups stand apart.
     pub fn of(p: Places, side: Side<'_>) -> Option<Self> {
-        let one = Group::of(side, p.first, p.second);
-        let two = Group::of(side, p.second, p.end);
-        let first = one.first_placed(two);
-        let second = two.second_placed(first);
+        let one = p.first as u64..p.second as u64;
+        let two = p.second as u64..p.end as u64;
+        let later = group_of(side, &two);
+        let first = first_placed(group_of(side, &one), &later);
+        let second = second_placed(&first, later);
         if first.end != second.start {
             return None;
         }
         Some(Plan {
             before: first.start,
-            first: first.block(side, p.first, p.second),
-            second: second.block(side, p.second, p.end),
+            first: block_of(side, &first, &one),
+            second: block_of(side, &second, &two),
             behind: side.told.events.saturating_sub(second.end),
         })
     }

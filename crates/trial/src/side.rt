@@ -1,8 +1,9 @@
 // A walk that was made: its input, what it told, and what it left in its stores; and an event of it.
 use crate::scan::{Question, STORE};
 use bitcode::{LLVM_BITCODE_WRAPPER_MAGIC, blob};
+use std::ops::Range;
 use terms::EVENT_SIZE;
-use text::store::{entry, number_at, numbers_of};
+use text::store::{entry, numbers_of};
 use walk::{ARRAY, BLOB, CHAR6, ENTER, RECORD, SKIP, Walked, walk};
 
 // The two stores that a walk fills. Before, they hold a number all over that no walk is to leave behind.
@@ -21,6 +22,7 @@ impl Stores {
     }
 }
 
+// A walk, with its input and its stores.
 #[derive(Clone, Copy)]
 pub struct Side<'a> {
     pub input: &'a [u8],
@@ -29,10 +31,10 @@ pub struct Side<'a> {
     pub operands: &'a [u64],
 }
 
-// An event, as the store has it, with what a record's places point into.
+// An event: its eight numbers, and what a record's places point into.
 #[derive(Clone, Copy)]
 pub struct Event<'a> {
-    numbers: &'a [u64],
+    pub numbers: [u64; EVENT_SIZE],
     operands: &'a [u64],
     input: &'a [u8],
 }
@@ -61,10 +63,11 @@ impl<'a> Side<'a> {
         self.told.status == 0
     }
 
-    // The event x.
+    // The event x, and zeros where there is none.
     pub fn event(self, x: u64) -> Event<'a> {
+        let numbers = entry(self.events, x).first_chunk().copied();
         Event {
-            numbers: entry(self.events, x),
+            numbers: numbers.unwrap_or([0; EVENT_SIZE]),
             operands: self.operands,
             input: self.input,
         }
@@ -78,14 +81,13 @@ impl<'a> Side<'a> {
         4
     }
 
-    // Whether the event x opens the block that lies in the input from one byte to another: it tells of a body that begins behind the one and ends at the
-    // other.
-    pub fn opens(self, x: u64, from: u64, to: u64) -> bool {
+    // Whether the event x opens the block that has these bytes of the input: it tells of a body that begins behind the first one and ends at their end.
+    pub fn opens(self, x: u64, bytes: &Range<u64>) -> bool {
         let event = self.event(x);
-        let start = self.base().saturating_add(event.number(3));
+        let start = self.base().saturating_add(event.numbers[3]);
         matches!(event.kind(), ENTER | SKIP)
-            && from < start
-            && start.saturating_add(event.number(4)) == to
+            && bytes.start < start
+            && start.saturating_add(event.numbers[4]) == bytes.end
     }
 
     // Whether the stores are zero behind what the walk says that they hold, and for a refusal all over.
@@ -100,32 +102,27 @@ impl<'a> Side<'a> {
 }
 
 impl<'a> Event<'a> {
-    // The number i, and 0 where there is none.
-    pub fn number(self, i: usize) -> u64 {
-        number_at(self.numbers, i)
-    }
-
     pub fn kind(self) -> u64 {
-        self.number(0)
+        self.numbers[0]
     }
 
     // The kind of a record's payload.
     pub fn payload(self) -> u64 {
-        self.number(5)
+        self.numbers[5]
     }
 
     fn operands(self) -> &'a [u64] {
-        numbers_of(self.operands, self.number(3), self.number(4))
+        numbers_of(self.operands, self.numbers[3], self.numbers[4])
     }
 
     // The elements of a record's payload that has some.
     fn elements(self) -> &'a [u64] {
-        numbers_of(self.operands, self.number(6), self.number(7))
+        numbers_of(self.operands, self.numbers[6], self.numbers[7])
     }
 
     // The bytes of a record's payload that is a blob.
     fn blob(self) -> &'a [u8] {
-        blob(self.input, self.number(6), self.number(7))
+        blob(self.input, self.numbers[6], self.numbers[7])
     }
 
     // How many numbers of the operand store an event has.
@@ -134,8 +131,8 @@ impl<'a> Event<'a> {
             return 0;
         }
         match self.payload() {
-            ARRAY | CHAR6 => self.number(4).saturating_add(self.number(7)),
-            _ => self.number(4),
+            ARRAY | CHAR6 => self.numbers[4].saturating_add(self.numbers[7]),
+            _ => self.numbers[4],
         }
     }
 

@@ -10,6 +10,5 @@ invariant-loop-line l = (l.line.start ≤ l.line.end)
     × (length l.text ≡ length l.initial.text)
     × (length l.out ≡ length l.initial.out)
 
-
 abbrev pub decreases-loop-line : goal.decreases-loop-line
 decreases-loop-line l = l.line.left
