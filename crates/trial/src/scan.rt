@@ -1,5 +1,6 @@
 // A question, read off its line: `SKIPS EVENTS OPERANDS BYTES`, one space between.
 ghost use Rattle.std.specs.Prelude.{◌≤◌, IfSome};
+ghost use Rattle.trial.specs.declared.scan.TheConstants.{STORE};
 
 use text::front;
 use text::scan::{decimal, hex, skips};
@@ -15,12 +16,12 @@ pub struct Question<'a> {
     pub events: usize,
     pub operands: usize,
     pub input: &'a [u8],
-    ghost fits: { (events ≤ 8192) × (operands ≤ 8192) },
+    ghost fits: { (events ≤ STORE) × (operands ≤ STORE) },
 }
 
 // The size of a store.
 fn size(word: &[u8]) -> Option<usize>
-    ensures { IfSome result (λ n. n ≤ 8192) }
+    ensures { IfSome result (λ n. n ≤ STORE) }
 {
     let n = decimal(word)? as usize;
     if n <= STORE { Some(n) } else { None }
