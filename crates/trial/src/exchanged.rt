@@ -23,13 +23,13 @@ pub fn exchange_on(words: &[u8]) -> Option<(Places, &[u8])> {
     Some((places, words.next()?))
 }
 
-// Fills a buffer with the input whose bytes i to j and j to k are exchanged.
-fn fill_exchanged(input: &[u8], i: usize, j: usize, k: usize, bytes: &mut [u8])
-    requires { (i ≤ j) × (j ≤ k) × (k ≤ length input.now) × (length input.now ≡ length bytes.old) }
-    ensures { bytes.new ≡ exchange i j k input.now }
+// Fills a buffer with the input whose blocks at these places are exchanged.
+fn fill_exchanged(input: &[u8], p: Places, bytes: &mut [u8])
+    requires { (p.first ≤ p.second) × (p.second ≤ p.end) × (p.end ≤ length input.now) × (length input.now ≡ length bytes.old) }
+    ensures { bytes.new ≡ exchange p.first p.second p.end input.now }
 {
     bytes.copy_from_slice(input);
-    bytes[i..k].rotate_left(j - i);
+    bytes[p.first..p.end].rotate_left(p.second - p.first);
 }
 
 // The exchanged input, in the front of a buffer, if the input has such places and the buffer holds it.
@@ -40,6 +40,6 @@ pub fn exchange_into<'a>(input: &[u8], p: Places, bytes: &'a mut [u8]) -> Option
         return None;
     }
     let filled = bytes.get_mut(..input.len())?;
-    fill_exchanged(input, p.first, p.second, p.end, filled);
+    fill_exchanged(input, p, filled);
     Some(filled)
 }

@@ -1,4 +1,4 @@
--- `trial::exchanged::fill_exchanged` meets its contract: the part from i to k, turned left by the length of the first block, has the two blocks exchanged.
+-- `trial::exchanged::fill_exchanged` meets its contract: the two blocks' part, turned left by the length of the first, has them exchanged.
 -- Assumes nothing.
 use mathlib.Core.Path.{◌≡◌, sym, ap, ◌∙◌}
 use mathlib.Core.List.{List, ◌++◌, append_assoc}
