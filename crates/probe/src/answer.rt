@@ -1,52 +1,51 @@
-// What a call answered, in numbers, and that as text.
-use bitcode::Parsed;
+// What a call answered, and that as text.
+use bitcode::{Range, Signature};
+use bits::Cursor;
 use text::lines::put_signature;
-use text::{put_byte, put_bytes, put_decimal, put_named, put_signed};
+use text::{put_bytes, put_decimal, put_hex, put_named, put_signed};
 
 #[derive(Clone, Copy)]
-pub enum Answer {
-    // A number alone.
+pub enum Value {
     Number(u64),
     Signed(i64),
+    Range(Range),
+}
+
+#[derive(Clone, Copy)]
+pub enum Answer<'a> {
+    // A value alone.
+    Is(Value),
     Truth(bool),
     // The place that a cursor moved to.
     To(u64),
-    // A number, and the place behind it.
-    Read(u64, u64),
-    ReadSigned(i64, u64),
-    // Start, end, and the place behind them.
-    Range(u64, u64, u64),
-    // The part's place and end, and the place behind it.
-    Parts(u64, u64, u64),
-    Refused(u64),
-    // No such question.
-    Unknown,
+    // A value, and the place behind it.
+    Read(Value, u64),
+    // A part, and what is behind it.
+    Parts(Cursor, Cursor),
+    Header(Signature),
+    Bytes(&'a [u8]),
 }
 
-fn put_at(out: &mut [u8], fill: usize, place: u64) -> usize {
-    put_named(out, fill, b" at ", place)
+fn put_value(out: &mut [u8], fill: usize, value: Value) -> usize {
+    match value {
+        Value::Number(v) => put_decimal(out, fill, v),
+        Value::Signed(v) => put_signed(out, fill, v),
+        Value::Range(r) => {
+            let at = put_decimal(out, fill, r.start);
+            put_named(out, at, b"..", r.end)
+        }
+    }
 }
 
-fn put_read(out: &mut [u8], fill: usize, v: u64, place: u64) -> usize {
-    let at = put_decimal(out, fill, v);
-    put_at(out, at, place)
+fn put_read(out: &mut [u8], fill: usize, value: Value, place: u64) -> usize {
+    let at = put_value(out, fill, value);
+    put_named(out, at, b" at ", place)
 }
 
-fn put_signed_read(out: &mut [u8], fill: usize, v: i64, place: u64) -> usize {
-    let at = put_signed(out, fill, v);
-    put_at(out, at, place)
-}
-
-fn put_range(out: &mut [u8], fill: usize, start: u64, end: u64, place: u64) -> usize {
-    let a = put_decimal(out, fill, start);
-    let b = put_named(out, a, b"..", end);
-    put_at(out, b, place)
-}
-
-fn put_parts(out: &mut [u8], fill: usize, at: u64, end: u64, behind: u64) -> usize {
-    let a = put_named(out, fill, b"part ", at);
-    let b = put_named(out, a, b" ", end);
-    put_named(out, b, b" then ", behind)
+fn put_parts(out: &mut [u8], fill: usize, part: Cursor, behind: Cursor) -> usize {
+    let a = put_named(out, fill, b"part ", part.at);
+    let b = put_named(out, a, b" ", part.end);
+    put_named(out, b, b" then ", behind.at)
 }
 
 fn put_truth(out: &mut [u8], fill: usize, is_so: bool) -> usize {
@@ -56,28 +55,22 @@ fn put_truth(out: &mut [u8], fill: usize, is_so: bool) -> usize {
     put_bytes(out, fill, b"no")
 }
 
-fn put_refused(out: &mut [u8], fill: usize, number: u64) -> usize {
-    put_named(out, fill, b"refused ", number)
-}
-
-pub fn put_answer(out: &mut [u8], fill: usize, answer: Answer) -> usize {
+fn put_told(out: &mut [u8], fill: usize, answer: Answer<'_>) -> usize {
     match answer {
-        Answer::Number(v) => put_decimal(out, fill, v),
-        Answer::Signed(v) => put_signed(out, fill, v),
+        Answer::Is(value) => put_value(out, fill, value),
         Answer::Truth(is_so) => put_truth(out, fill, is_so),
         Answer::To(at) => put_named(out, fill, b"at ", at),
-        Answer::Read(v, at) => put_read(out, fill, v, at),
-        Answer::ReadSigned(v, at) => put_signed_read(out, fill, v, at),
-        Answer::Range(start, end, at) => put_range(out, fill, start, end, at),
-        Answer::Parts(at, end, behind) => put_parts(out, fill, at, end, behind),
-        Answer::Refused(e) => put_refused(out, fill, e),
-        Answer::Unknown => put_byte(out, fill, b'?'),
+        Answer::Read(value, at) => put_read(out, fill, value, at),
+        Answer::Parts(part, behind) => put_parts(out, fill, part, behind),
+        Answer::Header(header) => put_signature(out, fill, header),
+        Answer::Bytes(bytes) => put_hex(out, fill, bytes),
     }
 }
 
-pub fn put_header(out: &mut [u8], fill: usize, answer: Parsed) -> usize {
+// What a call answered, or the number of its refusal.
+pub fn put_answer(out: &mut [u8], fill: usize, answer: Result<Answer<'_>, u64>) -> usize {
     match answer {
-        Parsed::Signed(h) => put_signature(out, fill, h),
-        Parsed::Refused(e) => put_refused(out, fill, e),
+        Ok(answer) => put_told(out, fill, answer),
+        Err(number) => put_named(out, fill, b"refused ", number),
     }
 }

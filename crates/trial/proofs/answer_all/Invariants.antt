@@ -9,8 +9,6 @@ invariant-loop-line l = (l.line.start ≤ l.line.end)
     × (l.line.end ≤ length l.text)
     × (length l.text ≡ length l.initial.text)
     × (length l.out ≡ length l.initial.out)
-    × (length l.events ≡ length l.initial.events)
-    × (length l.operands ≡ length l.initial.operands)
 
 abbrev pub decreases-loop-line : goal.decreases-loop-line
 decreases-loop-line l = l.line.left
