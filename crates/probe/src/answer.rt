@@ -1,6 +1,7 @@
 // What a call answered, and that as text.
 use bitcode::{Range, Signature};
 use bits::Cursor;
+use terms::Reason;
 use text::lines::put_signature;
 use text::{put_bytes, put_decimal, put_hex, put_named, put_signed};
 
@@ -67,10 +68,10 @@ fn put_told(out: &mut [u8], fill: usize, answer: Answer<'_>) -> usize {
     }
 }
 
-// What a call answered, or the number of its refusal.
-pub fn put_answer(out: &mut [u8], fill: usize, answer: Result<Answer<'_>, u64>) -> usize {
+// What a call answered, or the number of why it is refused.
+pub fn put_answer(out: &mut [u8], fill: usize, answer: Result<Answer<'_>, Reason>) -> usize {
     match answer {
         Ok(answer) => put_told(out, fill, answer),
-        Err(number) => put_named(out, fill, b"refused ", number),
+        Err(reason) => put_named(out, fill, b"refused ", reason.number()),
     }
 }
