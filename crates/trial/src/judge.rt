@@ -3,7 +3,6 @@ use crate::exchanged::{Places, exchange_into, exchange_on};
 use crate::plan::Plan;
 use crate::scan::{Question, question_on};
 use crate::side::{Side, Stores};
-use bitcode::Signature;
 use text::lines::put_status;
 use text::scan::MOST_SKIPS;
 use text::{put_byte, put_bytes, put_named};
@@ -19,16 +18,6 @@ enum Verdict {
     Operands,
     Header,
     Exchanged(Plan),
-}
-
-// Whether two headers have the same six numbers.
-fn same_header(a: Signature, b: Signature) -> bool {
-    a.magic == b.magic
-        && a.magic2 == b.magic2
-        && a.version == b.version
-        && a.offset == b.offset
-        && a.size == b.size
-        && a.cpu == b.cpu
 }
 
 // The verdict on two walks that accepted: that of the input, and that of the exchanged input.
@@ -47,7 +36,7 @@ fn compared(p: Places, was: Side<'_>, is: Side<'_>) -> Verdict {
     if was.told.operands != is.told.operands {
         return Verdict::Operands;
     }
-    if !same_header(was.told.header, is.told.header) {
+    if was.told.header != is.told.header {
         return Verdict::Header;
     }
     Verdict::Exchanged(plan)

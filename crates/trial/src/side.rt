@@ -50,7 +50,7 @@ impl<'a> Side<'a> {
         let (events, operands) = (&mut stores.events, &mut stores.operands);
         let events = &mut events[..q.events];
         let operands = &mut operands[..q.operands];
-        let told = walk(input, q.skip, events, operands);
+        let told = Walked::from(walk(input, q.skip, events, operands));
         Side {
             input,
             told,
