@@ -1,7 +1,7 @@
 -- A reason is had back from the numbers that it tells, so two reasons that tell the same are the same. Assumes nothing.
-use Rattle.std.specs.Prelude.{◌≡◌, eqb, if◌then◌else◌}
+use Rattle.std.specs.Prelude.{◌≡◌, false, eqb, if◌then◌else◌}
 use mathlib.Core.Path.{refl}
-use Rattle.terms.specs.Refusals.{No, no, no_of}
+use Rattle.terms.specs.Refusals.{No, no, number_of, first_of, second_of, no_of}
 use Rattle.terms.specs.declared.Reason.{Reason}
 use Rattle.terms.specs.declared.Reason.TheVariants as R
 
@@ -51,3 +51,30 @@ reason_back R.NoAbbreviationRoom = refl
 reason_back R.NoEventRoom = refl
 reason_back R.NoOperandRoom = refl
 reason_back (R.BlockNumberTooLarge x) = refl
+
+-- no reason's number is 0
+pub never_zero : (r : Reason) → eqb (number_of (no_of r)) 0 ≡ false
+never_zero R.InvalidSignature = refl
+never_zero R.BufferOverflow = refl
+never_zero R.VbrOverflow = refl
+never_zero R.Alignment = refl
+never_zero R.InvalidAbbrev = refl
+never_zero R.UnexpectedOperand = refl
+never_zero (R.AbbrevWidthTooSmall x) = refl
+never_zero (R.NoSuchAbbrev x y) = refl
+never_zero (R.MissingEndBlock x) = refl
+never_zero R.MissingSetBid = refl
+never_zero R.NestedBlockInBlockInfo = refl
+never_zero (R.InvalidBlockInfoRecord x) = refl
+never_zero R.ValueOverflow = refl
+never_zero R.EndOfRecord = refl
+never_zero R.InputTooLong = refl
+never_zero (R.TooDeep x) = refl
+never_zero R.NoAbbreviationRoom = refl
+never_zero R.NoEventRoom = refl
+never_zero R.NoOperandRoom = refl
+never_zero (R.BlockNumberTooLarge x) = refl
+
+-- a number and its details, put together again
+pub no_whole : (x : No) → no (number_of x) (first_of x) (second_of x) ≡ x
+no_whole (no n x y) = refl
