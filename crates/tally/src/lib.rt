@@ -33,7 +33,7 @@ fn fields(s: &[u8], n: u64) -> u64
 {
     sum_of(
         s,
-        |c: Cursor|
+        move |c: Cursor|
             ensures { Gives c s.entry.now (read n) (of_read result) }
         { c.read(s, n) },
     )
@@ -45,7 +45,7 @@ fn numbers(s: &[u8], w: u64) -> u64
 {
     sum_of(
         s,
-        |c: Cursor|
+        move |c: Cursor|
             ensures { Gives c s.entry.now (vbr w) (of_read result) }
         { c.read_vbr(s, w) },
     )

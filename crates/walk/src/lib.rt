@@ -222,7 +222,7 @@ fn fill_run(
 {
     match k {
         ScalarOperand::Literal(v) => fill(
-            |c: Cursor|
+            move |c: Cursor|
                 ensures { result ≡ Ok (v, c) }
             { Ok((v, c)) },
             c,
@@ -230,7 +230,7 @@ fn fill_run(
             rest,
         ),
         ScalarOperand::Fixed(w) => fill(
-            |c: Cursor|
+            move |c: Cursor|
                 ensures { Gives c s.entry.now (read w) (of_read result) }
             { c.read(s, w) },
             c,
@@ -238,7 +238,7 @@ fn fill_run(
             rest,
         ),
         ScalarOperand::Vbr(w) => fill(
-            |c: Cursor|
+            move |c: Cursor|
                 ensures { Gives c s.entry.now (vbr w) (of_read result) }
             { c.read_vbr(s, w) },
             c,
@@ -246,7 +246,7 @@ fn fill_run(
             rest,
         ),
         ScalarOperand::Char6 => fill(
-            |c: Cursor|
+            move |c: Cursor|
                 ensures { Gives c s.entry.now (value Char6) (of_read result) }
             { bitcode::read_char6(c, s) },
             c,
