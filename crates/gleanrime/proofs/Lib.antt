@@ -1,4 +1,3 @@
-pub mod Call
 pub mod Parts
 pub mod Typed
 pub mod Once

@@ -12,6 +12,7 @@ use lib.Dec.{leb, eqb}
 use borrow.Author.Tests.{le-leb, lt-leb, leb-true, leb-false, eq-eqb, ne_eqb, eqb-true, eqb-false}
 use Rattle.terms.specs.Refusals.{no_of, number_of}
 use Rattle.terms.specs.declared.Reason.{Reason}
+use Rattle.terms.specs.declared.Reason.TheVariants.{InvalidSignature}
 use Rattle.bits.specs.Reader.{when◌then◌else◌}
 use Rattle.bitcode.specs.declared.Signature.{Signature}
 use Rattle.bitcode.specs.Header.{Opened, unsigned, opened, wrapper_magic, signature, parsed, stream, bytes_of, blob_of}
@@ -90,47 +91,38 @@ module _ (bs : List ℕ) (place n : ℕ) where
           omega (arith, r.0, r.1, h, (stream_lies bs).inside)
       go false i = let r = blob_outside (leb-false _ _ i) in omega (arith, r.0, r.1)
 
--- ---- the calls for the header, of what `Signature::parse` says
+-- ---- what the answer of `Signature::parse` says of the header
+parsed_err : (o : Opened) {k : Reason} → parsed o ≡ Err k → (o ≡ unsigned) × (k ≡ InvalidSignature)
+unfolding parsed
+parsed_err unsigned e = (refl, cc)
+parsed_err (opened h s) e = absurd (let z : ◌≡◌ {A = ℕ} 0 1 = cc in omega arith)
+
+parsed_ok : (o : Opened) {h : Signature} → parsed o ≡ Ok h → (s : List ℕ) × (o ≡ opened h s)
+unfolding parsed
+parsed_ok unsigned e = absurd (let z : ◌≡◌ {A = ℕ} 0 1 = cc in omega arith)
+parsed_ok (opened g s) e = (s, cc)
+
+-- ---- the calls for the header
 module _ (bs : List ℕ) where
-  pub header_refused : {k : Reason} (old ts : List ℕ) → parsed (signature bs) ≡ Err k → ts ≡ over (0 ∷ 0 ∷ 0 ∷ 0 ∷ 0 ∷ 0 ∷ []) old
-      → ReturnsHeader bs old (number_of (no_of k)) ts
-  unfolding parsed header_status header_numbers
-  header_refused {k} old ts e x = go (signature bs) e
-    where
-      go : (o : Opened) → parsed o ≡ Err k → (number_of (no_of k) ≡ header_status o) × (ts ≡ over (header_numbers o) old)
-      go unsigned i = (cc, x)
-      go (opened h s) i = absurd (let z : ◌≡◌ {A = ℕ} 0 1 = cc in omega arith)
+  module _ {k : Reason} (e : parsed (signature bs) ≡ Err k) where
+    pub header_refused : (old ts : List ℕ) → ts ≡ over (0 ∷ 0 ∷ 0 ∷ 0 ∷ 0 ∷ 0 ∷ []) old → ReturnsHeader bs old (number_of (no_of k)) ts
+    unfolding header_status header_numbers
+    header_refused old ts x = let p = parsed_err (signature bs) e in rw (p.0, p.1) (refl, x)
 
-  pub header_signed : {h : Signature} (old ts : List ℕ) → parsed (signature bs) ≡ Ok h → ts ≡ over (six h) old → ReturnsHeader bs old 0 ts
-  unfolding parsed header_status header_numbers
-  header_signed {h} old ts e x = go (signature bs) e
-    where
-      go : (o : Opened) → parsed o ≡ Ok h → (0 ≡ header_status o) × (ts ≡ over (header_numbers o) old)
-      go unsigned i = absurd (let z : ◌≡◌ {A = ℕ} 0 1 = cc in omega arith)
-      go (opened g s) i = let k : g ≡ h = cc in (refl, rw k x)
-
-  -- the stream's start
-  pub start_none : {k : Reason} → parsed (signature bs) ≡ Err k → 0 ≡ stream_from (signature bs)
-  unfolding parsed stream_from
-  start_none {k} e = go (signature bs) e
-    where
-      go : (o : Opened) → parsed o ≡ Err k → 0 ≡ stream_from o
-      go unsigned i = refl
-      go (opened h s) i = absurd (let z : ◌≡◌ {A = ℕ} 0 1 = cc in omega arith)
+    pub start_none : 0 ≡ stream_from (signature bs)
+    unfolding stream_from
+    start_none = rw (parsed_err (signature bs) e).0 refl
 
   module _ {h : Signature} (e : parsed (signature bs) ≡ Ok h) where
-    start_by : stream_from (signature bs) ≡ (when eqb h.magic wrapper_magic then h.offset + 4 else 4)
-    unfolding parsed stream_from
-    start_by = go (signature bs) e
-      where
-        go : (o : Opened) → parsed o ≡ Ok h → stream_from o ≡ (when eqb h.magic wrapper_magic then h.offset + 4 else 4)
-        go unsigned i = absurd (let z : ◌≡◌ {A = ℕ} 0 1 = cc in omega arith)
-        go (opened g s) i = let k : g ≡ h = cc in rw k
+    pub header_signed : (old ts : List ℕ) → ts ≡ over (six h) old → ReturnsHeader bs old 0 ts
+    unfolding header_status header_numbers
+    header_signed old ts x = rw (parsed_ok (signature bs) e).1 (refl, x)
 
+    -- the stream's start
     pub start_wrapped : h.magic ≡ wrapper_magic → h.offset + 4 ≡ stream_from (signature bs)
-    unfolding when◌then◌else◌
-    start_wrapped i = rw (start_by, eq-eqb _ _ i)
+    unfolding stream_from when◌then◌else◌
+    start_wrapped i = rw ((parsed_ok (signature bs) e).1, eq-eqb _ _ i)
 
     pub start_plain : (h.magic ≡ wrapper_magic → ⊥) → 4 ≡ stream_from (signature bs)
-    unfolding when◌then◌else◌
-    start_plain i = rw (start_by, ne_eqb _ _ i)
+    unfolding stream_from when◌then◌else◌
+    start_plain i = rw ((parsed_ok (signature bs) e).1, ne_eqb _ _ i)

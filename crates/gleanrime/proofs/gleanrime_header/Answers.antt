@@ -5,11 +5,11 @@ use Rattle.gleanrime.proofs.gleanrime_header.Goals as goal
 
 pub returns-in-Err : goal.returns-in-Err
 returns-in-Err c =
-    let all = header_refused _ _ _ (sym c.parse.ensures ∙ c.in-Err.is) c.put_front.ensures in
+    let all = header_refused _ (sym c.parse.ensures ∙ c.in-Err.is) _ _ c.put_front.ensures in
     record { status = c.number.ensures ∙ all.0; told = all.1 }
 
 pub returns-in-Ok : goal.returns-in-Ok
 returns-in-Ok c =
-    let all = header_signed _ _ _ (sym c.parse.ensures ∙ c.in-Ok.is)
+    let all = header_signed _ (sym c.parse.ensures ∙ c.in-Ok.is) _ _
     (rw c.six_of.ensures at c.put_front-in-Ok.ensures) in
     record { status = all.0; told = all.1 }
