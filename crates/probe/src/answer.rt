@@ -1,7 +1,6 @@
 // What a call answered, in numbers, and that as text.
 use bitcode::Parsed;
-use text::lines::put_signature;
-use text::{put_byte, put_bytes, put_decimal, put_named, put_signed};
+use text::old::{put_byte, put_bytes, put_decimal, put_named, put_signature, put_signed};
 
 #[derive(Clone, Copy)]
 pub enum Answer {

@@ -23,8 +23,9 @@ use bitcode::Signature;
 use cursor::{ask_cursor, ask_scalar, cursor_of};
 use scan::{Question, Scan, question_on};
 use text::feed::{Line, flush, made_room, zeros};
+use text::front;
+use text::old::{put_byte, put_bytes, put_hex};
 use text::scan::is_asking;
-use text::{front, put_byte, put_bytes, put_hex};
 use typed::ask_typed;
 
 // The most bytes of a question.

@@ -4,10 +4,10 @@ use crate::exchanged::{Exchange, Places, behind_places, exchange_into, places_on
 use crate::group::{Plan, plan_of};
 use crate::scan::{Question, STORE, Scan, question_on};
 use bitcode::Signature;
-use text::lines::put_status;
+use text::front;
+use text::old::{put_byte, put_bytes, put_named, put_status};
 use text::scan::MOST_SKIPS;
 use text::store::{entry, numbers_of};
-use text::{front, put_byte, put_bytes, put_named};
 use walk::{Walked, walk};
 
 // What the comparison of two accepted walks tells: the first event that is not as demanded, or what else differs.

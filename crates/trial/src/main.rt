@@ -33,10 +33,10 @@ use judge::put_exchange;
 use scan::{Question, STORE, Scan, question_on};
 use terms::EVENT_SIZE;
 use text::feed::{Line, flush, made_room, zeros};
-use text::lines::put_dump;
+use text::front;
+use text::old::{put_byte, put_bytes, put_dump};
 use text::scan::{MOST_SKIPS, is_asking};
 use text::store::numbers_of;
-use text::{front, put_byte, put_bytes};
 use walk::{Walked, walk};
 
 // What holds the longest line, 65,536 bytes, and the longest dump, 1,024 lines of at most 150 bytes and 8,192 operands of at most 21.
