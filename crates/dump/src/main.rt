@@ -10,7 +10,7 @@ use bitcode::Signature;
 use terms::INPUT_TOO_LONG;
 use text::feed::{STDIN_FILENO, STDOUT_FILENO, zeros};
 use text::front;
-use text::lines::{put_dump, put_status};
+use text::page::Page;
 use walk::{Walked, walk};
 
 // The most bytes that are taken, and the buffer that holds one more: so a longer input is known for one.
@@ -50,14 +50,17 @@ fn too_long() -> Walked
 fn put_input(input: &[u8], out: &mut [u8]) -> usize
     ensures { Puts out.old out.new 0 result (dumped input.now) }
 {
+    let mut page = Page::new(out, 0);
     if MOST < input.len() {
-        return put_status(out, 0, too_long());
+        page.status(too_long());
+        return page.fill;
     }
     let none = [0u64; 1];
     let mut events = [0u64; STORE];
     let mut operands = [0u64; STORE];
     let w = walk(input, &none[0..0], &mut events, &mut operands);
-    put_dump(out, 0, w, &events, &operands)
+    page.dump(w, &events, &operands);
+    page.fill
 }
 
 fn main() {

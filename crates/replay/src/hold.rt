@@ -4,6 +4,7 @@ ghost use Rattle.text.specs.Text.{Puts};
 ghost use Rattle.replay.specs.Answer.{answered, Holds};
 
 use crate::answer::put_answer;
+use text::page::Page;
 use text::{front, same_bytes};
 use walk::walk;
 
@@ -25,7 +26,9 @@ fn put_ours(
     ensures { Puts ours.old ours.new 0 result (answered input.now skip.now (length events.old) (length operands.old)) }
 {
     let w = walk(input, skip, events, operands);
-    put_answer(ours, 0, w, events, operands, input)
+    let mut page = Page::new(ours, 0);
+    put_answer(&mut page, w, events, operands, input);
+    page.fill
 }
 
 // Walks an input, puts our answer into a buffer, and tells whether the list's answer is the same. One of ours that fills the buffer may be cut, and is
