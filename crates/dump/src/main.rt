@@ -6,10 +6,11 @@ ghost use Rattle.std.specs.Prelude.{◌≡◌};
 ghost use Rattle.text.specs.Text.{Puts};
 ghost use Rattle.dump.specs.Dumped.{too_long, dumped};
 
-use terms::Reason;
+use bitcode::Signature;
+use terms::INPUT_TOO_LONG;
 use text::feed::{STDIN_FILENO, STDOUT_FILENO, zeros};
 use text::front;
-use text::lines::{put_dump, put_status};
+use text::page::Page;
 use walk::{Walked, walk};
 
 // The most bytes that are taken, and the buffer that holds one more: so a longer input is known for one.
@@ -27,21 +28,39 @@ const ROOM: usize = 524_288;
 fn too_long() -> Walked
     ensures { result ≡ too_long }
 {
-    Walked::from(Err(Reason::InputTooLong.at(0)))
+    Walked {
+        status: INPUT_TOO_LONG,
+        place: 0,
+        first: 0,
+        second: 0,
+        header: Signature {
+            magic: 0,
+            magic2: 0,
+            version: 0,
+            offset: 0,
+            size: 0,
+            cpu: 0,
+        },
+        events: 0,
+        operands: 0,
+    }
 }
 
 // The dump of an input, into a buffer; tells how much of the buffer is in use.
 fn put_input(input: &[u8], out: &mut [u8]) -> usize
     ensures { Puts out.old out.new 0 result (dumped input.now) }
 {
+    let mut page = Page::new(out, 0);
     if MOST < input.len() {
-        return put_status(out, 0, too_long());
+        page.status(too_long());
+        return page.fill;
     }
     let none = [0u64; 1];
     let mut events = [0u64; STORE];
     let mut operands = [0u64; STORE];
-    let w = Walked::from(walk(input, &none[0..0], &mut events, &mut operands));
-    put_dump(out, 0, w, &events, &operands)
+    let w = walk(input, &none[0..0], &mut events, &mut operands);
+    page.dump(w, &events, &operands);
+    page.fill
 }
 
 fn main() {

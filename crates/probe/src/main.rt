@@ -21,9 +21,9 @@ mod scan;
 use answer::put_answer;
 use ask::answer_to;
 use scan::question_on;
-use text::feed::{Line, flush, made_room, zeros};
+use text::feed::{Line, zeros};
+use text::page::Page;
 use text::scan::is_asking;
-use text::{put_byte, put_bytes};
 
 // The most bytes of a question.
 const MOST_BYTES: usize = 256;
@@ -34,41 +34,40 @@ const MOST: usize = 66_560;
 const ROOM: usize = 133_120;
 
 // The answer to a line that is neither empty nor a comment.
-fn put_reply(out: &mut [u8], fill: usize, line: &[u8]) -> usize {
+fn put_reply(page: &mut Page<'_>, line: &[u8]) {
     let mut bytes = [0u8; MOST_BYTES];
-    let at = put_bytes(out, fill, b" -> ");
+    page.bytes(b" -> ");
     match question_on(line, &mut bytes) {
-        Some(q) => put_answer(out, at, answer_to(q)),
-        None => put_byte(out, at, b'?'),
+        Some(q) => put_answer(page, answer_to(q)),
+        None => page.byte(b'?'),
     }
 }
 
 // The line, its answer, and a line end.
-fn put_line(out: &mut [u8], fill: usize, line: &[u8]) -> usize {
-    let at = put_bytes(out, fill, line);
+fn put_line(page: &mut Page<'_>, line: &[u8]) {
+    page.bytes(line);
     if is_asking(line) {
-        let behind = put_reply(out, at, line);
-        return put_byte(out, behind, b'\n');
+        put_reply(page, line);
     }
-    put_byte(out, at, b'\n')
+    page.byte(b'\n');
 }
 
 // Answers every line of the input.
-fn answer_all(text: &mut [u8], out: &mut [u8]) {
-    let mut fill = 0;
+fn answer_all(text: &mut [u8], page: &mut Page<'_>) {
     let mut line = Line::first(text);
     while 0 < line.left {
         let a = line.start;
         let e = line.end;
-        fill = made_room(out, fill, MOST);
-        fill = put_line(out, fill, &text[a..e]);
+        page.make_room(MOST);
+        put_line(page, &text[a..e]);
         line = line.behind(text);
     }
-    flush(out, fill);
+    page.flush();
 }
 
 fn main() {
     let mut text = io::large_buffer();
     let mut out = zeros::<ROOM>();
-    answer_all(&mut text, &mut out);
+    let mut page = Page::new(&mut out, 0);
+    answer_all(&mut text, &mut page);
 }

@@ -1,167 +1,125 @@
 // The walk's answer in the notation of the list. What lies outside the stores is left out.
 ghost use Rattle.std.specs.Prelude.{◌++◌, length, get_or};
-ghost use Rattle.text.specs.Text.{Puts, items, pairs};
+ghost use Rattle.text.specs.Text.{items, pairs};
+ghost use Rattle.text.specs.Page.{Writes};
 ghost use Rattle.text.specs.Dump.{named, shown as shown_of};
 ghost use Rattle.replay.specs.Answer.{refused, header, behind_commas, payload, record_text, event_text, event_texts, answer_text};
 
 use bitcode::{Signature, blob};
 use text::lines::shown;
+use text::page::Page;
 use text::store::{entry, number_at, numbers_of};
-use text::{put_bytes, put_decimal, put_named, put_numbers, put_pairs};
 use walk::{ARRAY, BLOB, CHAR6, ENTER, LEAVE, RECORD, SKIP, Walked};
 
 // The number of a refusal, and its details.
-fn put_refused(out: &mut [u8], fill: usize, w: Walked) -> usize
-    ensures { Puts out.old out.new fill result (refused w) }
+fn put_refused(page: &mut Page, w: Walked)
+    ensures { Writes page.old page.new (refused w) }
 {
-    let a = put_decimal(out, fill, w.status);
-    let b = put_named(out, a, b" ", w.first);
-    put_named(out, b, b" ", w.second)
+    page.decimal(w.status);
+    page.named(b" ", w.first);
+    page.named(b" ", w.second);
 }
 
 // 0 and the header numbers.
-fn put_header(out: &mut [u8], fill: usize, h: Signature) -> usize
-    ensures { Puts out.old out.new fill result (header h) }
+fn put_header(page: &mut Page, h: Signature)
+    ensures { Writes page.old page.new (header h) }
 {
-    let a = put_named(out, fill, b"0 ", h.magic);
-    let b = put_named(out, a, b" ", h.magic2);
-    let c = put_named(out, b, b" ", h.version);
-    let d = put_named(out, c, b" ", h.offset);
-    let e = put_named(out, d, b" ", h.size);
-    put_named(out, e, b" ", h.cpu)
+    page.named(b"0 ", h.magic);
+    page.named(b" ", h.magic2);
+    page.named(b" ", h.version);
+    page.named(b" ", h.offset);
+    page.named(b" ", h.size);
+    page.named(b" ", h.cpu);
 }
 
 // Numbers, each behind a comma.
-fn put_behind_commas(out: &mut [u8], fill: usize, numbers: &[u64]) -> usize
-    ensures { Puts out.old out.new fill result (behind_commas numbers.now) }
+fn put_behind_commas(page: &mut Page, numbers: &[u64])
+    ensures { Writes page.old page.new (behind_commas numbers.now) }
 {
-    let mut at = fill;
-    let mut i = 0;
-    while i < numbers.len() {
-        at = put_named(out, at, b",", numbers[i]);
-        i += 1;
+    for v in numbers {
+        page.named(b",", *v);
     }
-    at
 }
 
 // A letter, and numbers with commas between them.
-fn put_elements(out: &mut [u8], fill: usize, letter: &[u8], numbers: &[u64]) -> usize
-    ensures { Puts out.old out.new fill result (letter.now ++ items 0 numbers.now) }
+fn put_elements(page: &mut Page, letter: &[u8], numbers: &[u64])
+    ensures { Writes page.old page.new (letter.now ++ items 0 numbers.now) }
 {
-    let at = put_bytes(out, fill, letter);
-    put_numbers(out, at, numbers)
+    page.bytes(letter);
+    page.numbers(numbers);
 }
 
-// A letter, and bytes in hex.
-fn put_blob(out: &mut [u8], fill: usize, letter: &[u8], bytes: &[u8]) -> usize
-    ensures { Puts out.old out.new fill result (letter.now ++ pairs bytes.now) }
-{
-    let at = put_bytes(out, fill, letter);
-    put_pairs(out, at, bytes)
-}
-
-fn put_payload(
-    out: &mut [u8],
-    fill: usize,
-    kind: u64,
-    place: u64,
-    count: u64,
-    operands: &[u64],
-    input: &[u8],
-) -> usize
-    ensures { Puts out.old out.new fill result (payload kind place count operands.now input.now) }
+fn put_payload(page: &mut Page, kind: u64, place: u64, count: u64, operands: &[u64], input: &[u8])
+    ensures { Writes page.old page.new (payload kind place count operands.now input.now) }
 {
     match kind {
-        ARRAY => put_elements(out, fill, b"a", numbers_of(operands, place, count)),
-        CHAR6 => put_elements(out, fill, b"c", numbers_of(operands, place, count)),
-        BLOB => put_blob(out, fill, b"b", blob(input, place, count)),
-        _ => fill,
+        ARRAY => put_elements(page, b"a", numbers_of(operands, place, count)),
+        CHAR6 => put_elements(page, b"c", numbers_of(operands, place, count)),
+        BLOB => {
+            page.byte(b'b');
+            page.pairs(blob(input, place, count));
+        }
+        _ => {}
     }
 }
 
 // A record; e has the event's numbers, here and below.
-fn put_record(out: &mut [u8], fill: usize, e: &[u64], operands: &[u64], input: &[u8]) -> usize
-    ensures { Puts out.old out.new fill result (record_text e.now operands.now input.now) }
+fn put_record(page: &mut Page, e: &[u64], operands: &[u64], input: &[u8])
+    ensures { Writes page.old page.new (record_text e.now operands.now input.now) }
 {
-    let a = put_named(out, fill, b" =", number_at(e, 1));
-    let b = put_named(out, a, b",", number_at(e, 2));
+    page.named(b" =", number_at(e, 1));
+    page.named(b",", number_at(e, 2));
     let values = numbers_of(operands, number_at(e, 3), number_at(e, 4));
-    let c = put_behind_commas(out, b, values);
+    put_behind_commas(page, values);
     put_payload(
-        out,
-        c,
+        page,
         number_at(e, 5),
         number_at(e, 6),
         number_at(e, 7),
         operands,
         input,
-    )
+    );
 }
 
 // The head of a block that is entered.
-fn put_enter(out: &mut [u8], fill: usize, e: &[u64]) -> usize
-    ensures { Puts out.old out.new fill result (named " +" (get_or e.now 1 0) ++ named "/" (get_or e.now 2 0)) }
+fn put_enter(page: &mut Page, e: &[u64])
+    ensures { Writes page.old page.new (named " +" (get_or e.now 1 0) ++ named "/" (get_or e.now 2 0)) }
 {
-    let a = put_named(out, fill, b" +", number_at(e, 1));
-    put_named(out, a, b"/", number_at(e, 2))
+    page.named(b" +", number_at(e, 1));
+    page.named(b"/", number_at(e, 2));
 }
 
 // An event of a kind.
-fn put_event(
-    out: &mut [u8],
-    fill: usize,
-    kind: u64,
-    e: &[u64],
-    operands: &[u64],
-    input: &[u8],
-) -> usize
-    ensures { Puts out.old out.new fill result (event_text kind e.now operands.now input.now) }
+fn put_event(page: &mut Page, kind: u64, e: &[u64], operands: &[u64], input: &[u8])
+    ensures { Writes page.old page.new (event_text kind e.now operands.now input.now) }
 {
     match kind {
-        ENTER => put_enter(out, fill, e),
-        LEAVE => put_named(out, fill, b" -", number_at(e, 1)),
-        RECORD => put_record(out, fill, e, operands, input),
-        SKIP => put_named(out, fill, b" ~", number_at(e, 1)),
-        _ => fill,
+        ENTER => put_enter(page, e),
+        LEAVE => page.named(b" -", number_at(e, 1)),
+        RECORD => put_record(page, e, operands, input),
+        SKIP => page.named(b" ~", number_at(e, 1)),
+        _ => {}
     }
 }
 
 // The events that are told of, if the store holds them.
-fn put_events(
-    out: &mut [u8],
-    fill: usize,
-    told: u64,
-    events: &[u64],
-    operands: &[u64],
-    input: &[u8],
-) -> usize
-    ensures { Puts out.old out.new fill result (event_texts (shown_of told (length events.now)) events.now operands.now input.now) }
+fn put_events(page: &mut Page, told: u64, events: &[u64], operands: &[u64], input: &[u8])
+    ensures { Writes page.old page.new (event_texts (shown_of told (length events.now)) events.now operands.now input.now) }
 {
-    let n = shown(told, events.len());
-    let mut at = fill;
-    let mut i = 0;
-    while i < n {
+    for i in 0..shown(told, events.len()) {
         let e = entry(events, i as u64);
-        at = put_event(out, at, number_at(e, 0), e, operands, input);
-        i += 1;
+        put_event(page, number_at(e, 0), e, operands, input);
     }
-    at
 }
 
 // What a walk told of an input, with the stores that it filled.
-pub fn put_answer(
-    out: &mut [u8],
-    fill: usize,
-    w: Walked,
-    events: &[u64],
-    operands: &[u64],
-    input: &[u8],
-) -> usize
-    ensures { Puts out.old out.new fill result (answer_text w events.now operands.now input.now) }
+pub fn put_answer(page: &mut Page, w: Walked, events: &[u64], operands: &[u64], input: &[u8])
+    ensures { Writes page.old page.new (answer_text w events.now operands.now input.now) }
 {
     if w.status == 0 {
-        let at = put_header(out, fill, w.header);
-        return put_events(out, at, w.events, events, operands, input);
+        put_header(page, w.header);
+        put_events(page, w.events, events, operands, input);
+    } else {
+        put_refused(page, w);
     }
-    put_refused(out, fill, w)
 }

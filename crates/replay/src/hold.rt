@@ -4,8 +4,9 @@ ghost use Rattle.text.specs.Text.{Puts};
 ghost use Rattle.replay.specs.Answer.{answered, Holds};
 
 use crate::answer::put_answer;
+use text::page::Page;
 use text::{front, same_bytes};
-use walk::{Walked, walk};
+use walk::walk;
 
 // How much of its buffer our answer takes, and whether the list has the same.
 #[derive(Clone, Copy)]
@@ -24,8 +25,10 @@ fn put_ours(
 ) -> usize
     ensures { Puts ours.old ours.new 0 result (answered input.now skip.now (length events.old) (length operands.old)) }
 {
-    let w = Walked::from(walk(input, skip, events, operands));
-    put_answer(ours, 0, w, events, operands, input)
+    let w = walk(input, skip, events, operands);
+    let mut page = Page::new(ours, 0);
+    put_answer(&mut page, w, events, operands, input);
+    page.fill
 }
 
 // Walks an input, puts our answer into a buffer, and tells whether the list's answer is the same. One of ours that fills the buffer may be cut, and is

@@ -25,10 +25,11 @@ mod scan;
 
 use hold::held;
 use scan::{answer_on, question_on};
-use text::feed::{Line, flush, made_room, zeros};
+use text::feed::{Line, zeros};
+use text::front;
+use text::page::Page;
 use text::scan::{MOST_SKIPS, is_asking};
 use text::store::numbers_of;
-use text::{front, put_byte, put_bytes, put_decimal, put_named};
 
 // The numbers of each of the two stores that are lent.
 const STORE: usize = 8_192;
@@ -44,123 +45,83 @@ const MOST: usize = 196_672;
 
 const ROOM: usize = 262_144;
 
-// What the list comes to so far: how much of the printed buffer is in use, how many answers there were, and how many of them were the same.
+// What the list comes to so far: the page that is printed, how many answers there were, and how many of them were the same.
 #[derive(Drop)]
-struct Tally {
-    fill: usize,
+struct Tally<'a> {
+    page: Page<'a>,
     answers: u64,
     same: u64,
 }
 
-// One more, as far as 64 bits reach.
-fn one_more(n: u64) -> u64 {
-    if n < u64::MAX {
-        return n + 1;
+impl Tally<'_> {
+    // A line as it stands, and its line end.
+    fn put_line(&mut self, line: &[u8]) {
+        self.page.bytes(line);
+        self.page.byte(b'\n');
     }
-    n
-}
 
-// A line as it stands, and its line end.
-fn put_line(out: &mut [u8], fill: usize, line: &[u8]) -> usize {
-    let at = put_bytes(out, fill, line);
-    put_byte(out, at, b'\n')
-}
+    // One more answer, which is the same as ours or not.
+    fn count(&mut self, same: bool) {
+        self.answers = self.answers.saturating_add(1);
+        if same {
+            self.same = self.same.saturating_add(1);
+        }
+    }
 
-// A line, and our answer behind it.
-fn put_differing(out: &mut [u8], fill: usize, line: &[u8], ours: &[u8]) -> usize {
-    let a = put_line(out, fill, line);
-    let b = put_bytes(out, a, b"  ours ");
-    put_line(out, b, ours)
+    // The last line.
+    fn put_total(&mut self) {
+        self.page.decimal(self.answers);
+        self.page.named(b" answers, ", self.same);
+        self.page.bytes(b" the same\n");
+    }
 }
 
 // Holds the answer on a line against ours.
 fn judge(
-    out: &mut [u8],
-    t: Tally,
+    t: &mut Tally,
     line: &[u8],
-    answer: &[u8],
     ours: &mut [u8],
     input: &[u8],
     skip: &[u64],
     events: &mut [u64],
     operands: &mut [u64],
-) -> Tally {
-    let h = held(answer, ours, input, skip, events, operands);
-    if h.same {
-        return Tally {
-            fill: t.fill,
-            answers: one_more(t.answers),
-            same: one_more(t.same),
-        };
-    }
-    Tally {
-        fill: put_differing(out, t.fill, line, front(ours, h.fill)),
-        answers: one_more(t.answers),
-        same: t.same,
-    }
-}
-
-// A line that is no question.
-fn put_other(out: &mut [u8], t: Tally, line: &[u8]) -> Tally {
-    let at = put_line(out, t.fill, line);
-    Tally {
-        fill: put_bytes(out, at, b"  ?\n"),
-        answers: t.answers,
-        same: t.same,
+) {
+    let h = held(answer_on(line), ours, input, skip, events, operands);
+    t.count(h.same);
+    if !h.same {
+        t.put_line(line);
+        t.page.bytes(b"  ours ");
+        t.put_line(front(ours, h.fill));
     }
 }
 
 // A line that is neither empty nor a comment.
-fn ask(
-    out: &mut [u8],
-    t: Tally,
-    line: &[u8],
-    ours: &mut [u8],
-    events: &mut [u64],
-    operands: &mut [u64],
-) -> Tally {
+fn ask(t: &mut Tally, line: &[u8], ours: &mut [u8], events: &mut [u64], operands: &mut [u64]) {
     let mut list = [0u64; MOST_SKIPS];
     let mut bytes = [0u8; INPUT];
-    match question_on(line, &mut list, &mut bytes) {
-        None => put_other(out, t, line),
-        Some(q) => judge(
-            out,
-            t,
-            line,
-            answer_on(line),
-            ours,
-            front(&bytes, q.bytes),
-            numbers_of(&list, 0, q.skips as u64),
-            events,
-            operands,
-        ),
-    }
+    let Some(q) = question_on(line, &mut list, &mut bytes) else {
+        t.put_line(line);
+        t.page.bytes(b"  ?\n");
+        return;
+    };
+    let input = front(&bytes, q.bytes);
+    let skip = numbers_of(&list, 0, q.skips as u64);
+    judge(t, line, ours, input, skip, events, operands);
 }
 
 // A line of the list.
 fn take_line(
-    out: &mut [u8],
-    t: Tally,
+    t: &mut Tally,
     line: &[u8],
     ours: &mut [u8],
     events: &mut [u64],
     operands: &mut [u64],
-) -> Tally {
+) {
     if is_asking(line) {
-        return ask(out, t, line, ours, events, operands);
+        ask(t, line, ours, events, operands);
+    } else {
+        t.put_line(line);
     }
-    Tally {
-        fill: put_line(out, t.fill, line),
-        answers: t.answers,
-        same: t.same,
-    }
-}
-
-// The last line.
-fn put_tally(out: &mut [u8], t: Tally) -> usize {
-    let a = put_decimal(out, t.fill, t.answers);
-    let b = put_named(out, a, b" answers, ", t.same);
-    put_bytes(out, b, b" the same\n")
 }
 
 // Takes every line of the list; room is made behind each, so that the last line of the output has it too.
@@ -172,7 +133,7 @@ fn take_all(
     operands: &mut [u64],
 ) {
     let mut t = Tally {
-        fill: 0,
+        page: Page::new(out, 0),
         answers: 0,
         same: 0,
     };
@@ -180,12 +141,12 @@ fn take_all(
     while 0 < line.left {
         let a = line.start;
         let e = line.end;
-        t = take_line(out, t, &text[a..e], ours, events, operands);
-        t.fill = made_room(out, t.fill, MOST);
+        take_line(&mut t, &text[a..e], ours, events, operands);
+        t.page.make_room(MOST);
         line = line.behind(text);
     }
-    let fill = put_tally(out, t);
-    flush(out, fill);
+    t.put_total();
+    t.page.flush();
 }
 
 fn main() {

@@ -28,8 +28,8 @@ part_over l place count h =
     let n : length (drop place l) ≡ length l - place = length-drop place l in
     take_all (length l - place) (drop place l) (omega arith) ∙ sym (take_all count (drop place l) (omega arith))
 
-pub listed_none : (xs : List ℕ) → length xs ≡ 0 → listed xs ≡ codes "-"
-unfolding listed
+pub listed_none : (xs : List ℕ) → length xs ≡ 0 → listed xs ≡ codes "-" ++ items 0 xs
+unfolding listed items codes
 listed_none [] h = refl
 listed_none (v ∷ vs) h = absurd (omega arith)
 

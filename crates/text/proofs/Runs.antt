@@ -61,8 +61,8 @@ unfolding item
 later_item zero v h = absurd (h refl)
 later_item (suc i) v h = refl
 
-pub hex_none : (s : List ℕ) → length s ≡ 0 → hex s ≡ 45 ∷ []
-unfolding hex
+pub hex_none : (s : List ℕ) → length s ≡ 0 → hex s ≡ (45 ∷ []) ++ pairs s
+unfolding hex pairs
 hex_none [] h = refl
 hex_none (b ∷ bs) h = absurd (omega arith)
 

@@ -1,7 +1,9 @@
-// Standard input line by line, and standard output in pieces, each through a lent buffer.
+// Standard input line by line, and pages to standard output, each through a lent buffer.
 ghost use Rattle.std.specs.Prelude.{◌≡◌, ◌+◌, ◌-◌, ◌≤◌, length, slice_index, EachIndex};
+ghost use Rattle.text.specs.Page.{Keeps};
 
 use crate::front;
+use crate::page::Page;
 use crate::scan::find;
 
 // Standard input's and standard output's descriptors.
@@ -131,4 +133,24 @@ pub fn made_room(out: &[u8], fill: usize, more: usize) -> usize
         return fill;
     }
     flush(out, fill)
+}
+
+impl Page<'_> {
+    // Writes out what is in use, and nothing is in use then.
+    pub fn flush(&mut self)
+        ensures buffer { Keeps self.old self.new }
+        ensures fill { self.new.fill ≡ 0 }
+    {
+        let fill = self.fill;
+        self.fill = flush(self.buffer(), fill);
+    }
+
+    // Writes out what is in use where there is no room for so much more.
+    pub fn make_room(&mut self, more: usize)
+        ensures buffer { Keeps self.old self.new }
+        ensures room { more ≤ length self.old.bytes.now → self.new.fill + more ≤ length self.old.bytes.now }
+    {
+        let fill = self.fill;
+        self.fill = made_room(self.buffer(), fill, more);
+    }
 }

@@ -3,9 +3,9 @@ use crate::exchanged::{Places, exchange_into, exchange_on};
 use crate::plan::Plan;
 use crate::scan::{Question, question_on};
 use crate::side::{Side, Stores};
-use text::lines::put_status;
+use bitcode::Signature;
+use text::page::Page;
 use text::scan::MOST_SKIPS;
-use text::{put_byte, put_bytes, put_named};
 use walk::Walked;
 
 // What is said of an exchange: which of the two inputs is refused; or the first event that is not as demanded, or what else differs.
@@ -18,6 +18,16 @@ enum Verdict {
     Operands,
     Header,
     Exchanged(Plan),
+}
+
+// Whether two headers have the same six numbers.
+fn same_header(a: Signature, b: Signature) -> bool {
+    a.magic == b.magic
+        && a.magic2 == b.magic2
+        && a.version == b.version
+        && a.offset == b.offset
+        && a.size == b.size
+        && a.cpu == b.cpu
 }
 
 // The verdict on two walks that accepted: that of the input, and that of the exchanged input.
@@ -36,7 +46,7 @@ fn compared(p: Places, was: Side<'_>, is: Side<'_>) -> Verdict {
     if was.told.operands != is.told.operands {
         return Verdict::Operands;
     }
-    if was.told.header != is.told.header {
+    if !same_header(was.told.header, is.told.header) {
         return Verdict::Header;
     }
     Verdict::Exchanged(plan)
@@ -68,43 +78,43 @@ fn asked(words: &[u8]) -> Option<Verdict> {
     Some(verdict_on(places, question, other))
 }
 
-// A line of a text and a number.
-fn put_number(out: &mut [u8], fill: usize, name: &[u8], n: u64) -> usize {
-    let at = put_named(out, fill, name, n);
-    put_byte(out, at, b'\n')
-}
-
-// The line of a refusal.
-fn put_refused(out: &mut [u8], fill: usize, name: &[u8], w: Walked) -> usize {
-    let at = put_bytes(out, fill, name);
-    put_status(out, at, w)
-}
-
 // The line that tells how many events stand before the two groups, in each of them and behind them.
-fn put_counts(out: &mut [u8], fill: usize, p: Plan) -> usize {
-    let a = put_named(out, fill, b"exchanged before=", p.before);
-    let b = put_named(out, a, b" first=", p.first.events);
-    let c = put_named(out, b, b" second=", p.second.events);
-    put_number(out, c, b" behind=", p.behind)
+fn put_counts(page: &mut Page<'_>, plan: Plan) {
+    page.named(b"exchanged before=", plan.before);
+    page.named(b" first=", plan.first.events);
+    page.named(b" second=", plan.second.events);
+    page.named(b" behind=", plan.behind);
+    page.byte(b'\n');
 }
 
-// The line of a verdict.
-fn put_verdict(out: &mut [u8], fill: usize, verdict: Verdict) -> usize {
-    match verdict {
-        Verdict::Was(w) => put_refused(out, fill, b"was ", w),
-        Verdict::Is(w) => put_refused(out, fill, b"is ", w),
-        Verdict::Apart => put_bytes(out, fill, b"apart\n"),
-        Verdict::Event(n) => put_number(out, fill, b"differs event=", n),
-        Verdict::Operands => put_bytes(out, fill, b"differs operands\n"),
-        Verdict::Header => put_bytes(out, fill, b"differs header\n"),
-        Verdict::Exchanged(p) => put_counts(out, fill, p),
+impl Verdict {
+    // Its line.
+    fn put(self, page: &mut Page<'_>) {
+        match self {
+            Verdict::Was(w) => {
+                page.bytes(b"was ");
+                page.status(w);
+            }
+            Verdict::Is(w) => {
+                page.bytes(b"is ");
+                page.status(w);
+            }
+            Verdict::Apart => page.bytes(b"apart\n"),
+            Verdict::Event(n) => {
+                page.named(b"differs event=", n);
+                page.byte(b'\n');
+            }
+            Verdict::Operands => page.bytes(b"differs operands\n"),
+            Verdict::Header => page.bytes(b"differs header\n"),
+            Verdict::Exchanged(plan) => put_counts(page, plan),
+        }
     }
 }
 
 // The answer to the words behind `exchange `, and `?` where they ask for no exchange or the input has no such places.
-pub fn put_exchange(out: &mut [u8], fill: usize, words: &[u8]) -> usize {
+pub fn put_exchange(page: &mut Page<'_>, words: &[u8]) {
     match asked(words) {
-        None => put_bytes(out, fill, b"?\n"),
-        Some(verdict) => put_verdict(out, fill, verdict),
+        None => page.bytes(b"?\n"),
+        Some(verdict) => verdict.put(page),
     }
 }

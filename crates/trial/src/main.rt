@@ -32,10 +32,9 @@ ghost use Rattle.std.specs.Prelude.{◌≤◌};
 use judge::put_exchange;
 use scan::{Question, question_on};
 use side::{Side, Stores};
-use text::feed::{Line, flush, made_room, zeros};
-use text::lines::put_dump;
+use text::feed::{Line, zeros};
+use text::page::Page;
 use text::scan::{MOST_SKIPS, is_asking};
-use text::{put_byte, put_bytes};
 
 // What holds the longest line, 65,536 bytes, and the longest dump, 1,024 lines of at most 150 bytes and 8,192 operands of at most 21.
 const MOST: usize = 393_216;
@@ -43,55 +42,55 @@ const MOST: usize = 393_216;
 const ROOM: usize = 524_288;
 
 // The answer to a question.
-fn put_asked(out: &mut [u8], fill: usize, q: Question<'_>) -> usize {
+fn put_asked(page: &mut Page<'_>, q: Question<'_>) {
     let mut stores = Stores::new();
     let side = Side::of(q.input, q, &mut stores);
-    let at = put_dump(out, fill, side.told, side.events, side.operands);
+    page.dump(side.told, side.events, side.operands);
     if side.is_zero_behind() {
-        return put_bytes(out, at, b"stores=zero\n");
+        page.bytes(b"stores=zero\n");
+    } else {
+        page.bytes(b"stores=left\n");
     }
-    put_bytes(out, at, b"stores=left\n")
 }
 
 // The answer to a line that is neither empty nor a comment.
-fn put_reply(out: &mut [u8], fill: usize, line: &[u8]) -> usize {
+fn put_reply(page: &mut Page<'_>, line: &[u8]) {
     if let Some(words) = line.strip_prefix(b"exchange ") {
-        return put_exchange(out, fill, words);
+        return put_exchange(page, words);
     }
     let mut list = [0u64; MOST_SKIPS];
     let mut bytes = io::buffer();
     match question_on(line, &mut list, &mut bytes) {
-        None => put_bytes(out, fill, b"?\n"),
-        Some(q) => put_asked(out, fill, q),
+        None => page.bytes(b"?\n"),
+        Some(q) => put_asked(page, q),
     }
 }
 
 // The line, a line end, and its answer.
-fn put_line(out: &mut [u8], fill: usize, line: &[u8]) -> usize {
-    let a = put_bytes(out, fill, line);
-    let b = put_byte(out, a, b'\n');
+fn put_line(page: &mut Page<'_>, line: &[u8]) {
+    page.bytes(line);
+    page.byte(b'\n');
     if is_asking(line) {
-        return put_reply(out, b, line);
+        put_reply(page, line);
     }
-    b
 }
 
 // Answers every line of the input.
-fn answer_all(text: &mut [u8], out: &mut [u8]) {
-    let mut fill = 0;
+fn answer_all(text: &mut [u8], page: &mut Page<'_>) {
     let mut line = Line::first(text);
     while 0 < line.left {
         let a = line.start;
         let e = line.end;
-        fill = made_room(out, fill, MOST);
-        fill = put_line(out, fill, &text[a..e]);
+        page.make_room(MOST);
+        put_line(page, &text[a..e]);
         line = line.behind(text);
     }
-    flush(out, fill);
+    page.flush();
 }
 
 fn main() {
     let mut text = io::large_buffer();
     let mut out = zeros::<ROOM>();
-    answer_all(&mut text, &mut out);
+    let mut page = Page::new(&mut out, 0);
+    answer_all(&mut text, &mut page);
 }

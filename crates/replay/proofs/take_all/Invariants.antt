@@ -8,7 +8,6 @@ abbrev pub invariant-loop-line : goal.invariant-loop-line
 invariant-loop-line l = (l.line.start ≤ l.line.end)
     × (l.line.end ≤ length l.text)
     × (length l.text ≡ length l.initial.text)
-    × (length l.out ≡ length l.initial.out)
     × (length l.ours ≡ length l.initial.ours)
     × (length l.events ≡ length l.initial.events)
     × (length l.operands ≡ length l.initial.operands)

@@ -2,7 +2,7 @@
 use borrow.Author.Tests.{ne_eqb}
 use Rattle.bits.specs.Reader.{when◌then◌else◌}
 use Rattle.text.specs.Dump.{codes, named}
-use Rattle.text.proofs.Puts.{puts_none}
+use Rattle.text.proofs.Pages.{writes_none}
 use Rattle.replay.specs.Answer.{event_text}
 use Rattle.replay.proofs.answer.put_event.Goals as goal
 
@@ -12,7 +12,7 @@ returns-in-1 c = rw c.in-1.is c.put_enter.ensures
 
 pub returns-in-2 : goal.returns-in-2
 unfolding codes named event_text when◌then◌else◌
-returns-in-2 c = rw c.in-2.is (rw c.number_at.ensures at c.put_named.ensures)
+returns-in-2 c = rw c.in-2.is (rw c.number_at.ensures at c.named.ensures)
 
 pub returns-in-3 : goal.returns-in-3
 unfolding event_text when◌then◌else◌
@@ -20,8 +20,8 @@ returns-in-3 c = rw c.in-3.is c.put_record.ensures
 
 pub returns-in-4 : goal.returns-in-4
 unfolding codes named event_text when◌then◌else◌
-returns-in-4 c = rw c.in-4.is (rw c.number_at-in-4.ensures at c.put_named-in-4.ensures)
+returns-in-4 c = rw c.in-4.is (rw c.number_at-in-4.ensures at c.named-in-4.ensures)
 
 pub returns-in_default : goal.returns-in_default
 unfolding event_text when◌then◌else◌
-returns-in_default c = let r = c.in_default.in_default-own.rest in rw (ne_eqb _ 1 r.0.0.0.1, ne_eqb _ 2 r.0.0.1, ne_eqb _ 3 r.0.1, ne_eqb _ 4 r.1) (puts_none _ _)
+returns-in_default c = let r = c.in_default.in_default-own.rest in rw (ne_eqb _ 1 r.0.0.0.1, ne_eqb _ 2 r.0.0.1, ne_eqb _ 3 r.0.1, ne_eqb _ 4 r.1) (writes_none _)

@@ -2,7 +2,7 @@
 use borrow.Author.Tests.{ne_eqb}
 use Rattle.bits.specs.Reader.{when◌then◌else◌}
 use Rattle.text.specs.Dump.{codes}
-use Rattle.text.proofs.Puts.{puts_none}
+use Rattle.text.proofs.Pages.{writes_none, writes_then}
 use Rattle.replay.specs.Answer.{payload}
 use Rattle.replay.proofs.answer.put_payload.Goals as goal
 
@@ -16,8 +16,8 @@ returns-in-2 c = rw c.in-2.is (rw c.numbers_of-in-2.ensures at c.put_elements-in
 
 pub returns-in-3 : goal.returns-in-3
 unfolding codes payload when◌then◌else◌
-returns-in-3 c = rw c.in-3.is (rw c.blob.ensures at c.put_blob.ensures)
+returns-in-3 c = rw c.in-3.is (writes_then c.byte.ensures (rw c.blob.ensures at c.pairs.ensures))
 
 pub returns-in_default : goal.returns-in_default
 unfolding payload when◌then◌else◌
-returns-in_default c = let r = c.in_default.in_default-own.rest in rw (ne_eqb _ 1 r.0.0.1, ne_eqb _ 2 r.0.1, ne_eqb _ 3 r.1) (puts_none _ _)
+returns-in_default c = let r = c.in_default.in_default-own.rest in rw (ne_eqb _ 1 r.0.0.1, ne_eqb _ 2 r.0.1, ne_eqb _ 3 r.1) (writes_none _)

@@ -3,10 +3,6 @@ use native.Mathlib.Omega.{arith}
 use Rattle.text.specs.Dump.{shown}
 use Rattle.text.proofs.lines.shown.Goals as goal
 
-pub returns-then-told-held : goal.returns-then-told-held
-unfolding shown
-returns-then-told-held c = omega arith
-
 pub returns : goal.returns
 unfolding shown
-returns c = omega arith
+returns c = omega (arith, c.min.ensures)

@@ -1,7 +1,0 @@
--- `text::put_word` meets its contract: the digits are the definition's. Assumes nothing.
-use native.Mathlib.Omega.{arith}
-use Rattle.text.proofs.Spelling.{word_is}
-use Rattle.text.proofs.put_word.Goals as goal
-
-pub returns : goal.returns
-returns c = rw (word_is _ _ (omega arith) c.hex-n.ensures.len) at (rw c.hex-n.ensures.digits at c.put_bytes.ensures)
