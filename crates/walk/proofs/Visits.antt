@@ -24,6 +24,7 @@ use Rattle.walk.specs.Walk.{entry, entries, those}
 use Rattle.walk.specs.Promises.{frame, marks, context, state_of, start_of, Sits, Room, closed, completed, opening_of, Went, Entered, Ended, body_answer, Visited}
 use Rattle.walk.specs.declared.Marks.{Marks}
 use Rattle.walk.specs.declared.Frame.{Frame}
+use Rattle.walk.specs.declared.Block.{Block}
 use Rattle.walk.proofs.Answers.{nesteds}
 use Rattle.walk.proofs.Turns.{items_turn, item_ahead}
 use Rattle.walk.proofs.Whole.{count_events, entries_length}
@@ -142,20 +143,20 @@ module _ (d : ℕ) (skips : Pass) (c : Context) (st : State) (s : List ℕ) (e p
       ∙ so_off (item (nested d skips) skips c st) (λ x. going_on p x (λ y. turns (λ k. items k (nested d skips) skips c (after y st)))) s e p z
 
 -- ---- where the loop stands
-pub record Going (s skip : List ℕ) (f : Frame) (m₀ : Marks) (own : List ℕ) (t₀ : Tables) (ev₀ ops₀ : List ℕ) (t : Tables) (ev ops : List ℕ) (m : Marks) : Type 0 where
+pub record Going (B : Block) (m₀ : Marks) (t₀ : Tables) (ev₀ ops₀ : List ℕ) (t : Tables) (ev ops : List ℕ) (m : Marks) : Type 0 where
   pub so_far : Pieces
-  pub answer : body_answer s skip f m₀ t₀ (length ev₀) (length ops₀)
-      ≡ mapped (joined so_far) (rest_of_block f.left (those skip) (context f) (state_of f m own t (length ev₀) (length ops₀)) s f.end m.at)
+  pub answer : body_answer B.stream.now B.skip.now B.frame m₀ t₀ (length ev₀) (length ops₀)
+      ≡ mapped (joined so_far) (rest_of_block B.frame.left (those B.skip.now) (context B.frame) (state_of B m t (length ev₀) (length ops₀)) B.stream.now B.frame.end m.at)
   pub room : Room m₀ m ev₀ ev ops₀ ops (entries (all_events so_far)) (all_store so_far)
   pub shareds_are : shareds t 0 m.shared ≡ shareds t₀ 0 m₀.shared ++ all_added so_far
   pub more : m₀.shared ≤ m.shared
-  pub from : m₀.local ≡ f.base
+  pub from : m₀.local ≡ B.frame.base
   pub kept : Kept m₀.shared m₀.local t₀ t
   pub whole : Whole t
   pub same_events : length ev ≡ length ev₀
   pub same_operands : length ops ≡ length ops₀
-  pub sits : Sits (length ev) (length ops) f m
-  pub below : Below m.shared own
+  pub sits : Sits (length ev) (length ops) B.frame m
+  pub below : Below m.shared B.own.now
 
 -- the block begins: its shared rows are those that are for it now
 first_rows : (f : Frame) (m : Marks) (own : List ℕ) (t : Tables) → m.local ≡ f.base → m.shared ≤ 32 → Whole t
@@ -178,14 +179,14 @@ pub picked_fits : (b have : ℕ) {r : ℕ} (owners rows : List ℕ) {rows' : Lis
 picked_fits b have {r} owners rows h z =
     let l = ap length z ∙ length-append (picked b owners have (length rows)) (drop r rows) in omega (arith, l, h)
 
-pub going_first : (s skip : List ℕ) (f : Frame) (m : Marks) (own : List ℕ) (t : Tables) (ev ops : List ℕ)
-    → Whole t → Sits (length ev) (length ops) f m → m.local ≡ f.base → own ≡ picked f.number t.owners m.shared 32
-    → Going s skip f m own t ev ops t ev ops m
+pub going_first : (B : Block) (m : Marks) (t : Tables) (ev ops : List ℕ)
+    → Whole t → Sits (length ev) (length ops) B.frame m → m.local ≡ B.frame.base → B.own.now ≡ picked B.frame.number t.owners m.shared 32
+    → Going B m t ev ops t ev ops m
 unfolding joined entries all_events all_store all_added
-going_first s skip f m own t ev ops whole sits from z = record {
+going_first B m t ev ops whole sits from z = record {
   so_far = done 0;
   answer =
-      ap (λ ms. rest_of_block f.left (those skip) (context f) (record { shareds = shareds t 0 m.shared; mine = ms; locals = m.local; room = (length ev - m.events) / event_size; fill = m.operands; left = length ops - m.operands }) s f.end m.at) (first_rows f m own t from sits.shared whole z)
+      ap (λ ms. rest_of_block B.frame.left (those B.skip.now) (context B.frame) (record { shareds = shareds t 0 m.shared; mine = ms; locals = m.local; room = (length ev - m.events) / event_size; fill = m.operands; left = length ops - m.operands }) B.stream.now B.frame.end m.at) (first_rows B.frame m B.own.now t from sits.shared whole z)
       ∙ sym (mapped_same (joined (done 0)) (λ a. refl) _);
   room = record {
     events = sym (append-nil (take m.events ev));
@@ -201,30 +202,30 @@ going_first s skip f m own t ev ops whole sits from z = record {
   same_events = refl;
   same_operands = refl;
   sits = sits;
-  below = rw z (picked_below f.number t.owners m.shared 32 sits.shared);
+  below = rw z (picked_below B.frame.number t.owners m.shared 32 sits.shared);
 }
 
-module _ {s skip : List ℕ} {f : Frame} {m₀ : Marks} {own : List ℕ} {t₀ : Tables} {ev₀ ops₀ : List ℕ} {t : Tables} {ev ops : List ℕ} {m : Marks}
-    (g : Going s skip f m₀ own t₀ ev₀ ops₀ t ev ops m) where
+module _ {B : Block} {m₀ : Marks} {t₀ : Tables} {ev₀ ops₀ : List ℕ} {t : Tables} {ev ops : List ℕ} {m : Marks}
+    (g : Going B m₀ t₀ ev₀ ops₀ t ev ops m) where
   -- the state here, with the sizes of the stores as they were at the start; the item here; and the whole block's answer
   abbrev St : State
-  St = state_of f m own t (length ev₀) (length ops₀)
+  St = state_of B m t (length ev₀) (length ops₀)
 
   abbrev ItemHere : Answer Refusal (Option Piece)
-  ItemHere = item (nested f.left (those skip)) (those skip) (context f) St s f.end m.at
+  ItemHere = item (nested B.frame.left (those B.skip.now)) (those B.skip.now) (context B.frame) St B.stream.now B.frame.end m.at
 
   abbrev Body : Answer Refusal Pieces
-  Body = body_answer s skip f m₀ t₀ (length ev₀) (length ops₀)
+  Body = body_answer B.stream.now B.skip.now B.frame m₀ t₀ (length ev₀) (length ops₀)
 
   -- the item that a callee speaks of, by its own sizes of the stores
   item_here : {x : Answer Refusal (Option Piece)}
-      → completed s skip f (state_of f m own t (length ev) (length ops)) (opening_of s f m own t (length ev) (length ops)) ≡ x → ItemHere ≡ x
+      → completed B (state_of B m t (length ev) (length ops)) (opening_of B m t (length ev) (length ops)) ≡ x → ItemHere ≡ x
   unfolding item ◌>>=◌
   item_here z = rw (g.same_events, g.same_operands) at z
 
   -- an item that is not the end goes forward
-  pub ahead : {x : Piece} {q : ℕ} → ItemHere ≡ got (some x) q → Ahead s f.end m.at q
-  ahead {x} {q} z = item_ahead (nested f.left (those skip)) (those skip) (context f) s f.end (nesteds f.left (those skip)) St m.at q x z
+  pub ahead : {x : Piece} {q : ℕ} → ItemHere ≡ got (some x) q → Ahead B.stream.now B.frame.end m.at q
+  ahead {x} {q} z = item_ahead (nested B.frame.left (those B.skip.now)) (those B.skip.now) (context B.frame) B.stream.now B.frame.end (nesteds B.frame.left (those B.skip.now)) St m.at q x z
 
   -- what the whole block has kept of the tables, behind an item
   pub kept_item : {t' : Tables} → Kept m.shared m.local t t' → Kept m₀.shared m₀.local t₀ t'
@@ -232,18 +233,18 @@ module _ {s skip : List ℕ} {f : Frame} {m₀ : Marks} {own : List ℕ} {t₀ :
 
   -- the loop goes on behind a piece
   going_with : {m' : Marks} {t' : Tables} {ev' ops' : List ℕ} (x : Piece) → ItemHere ≡ got (some x) m'.at
-      → state_of f m' own t' (length ev₀) (length ops₀) ≡ after x St
-      → Room m m' ev ev' ops ops' (entries (events x)) (store x) → m.shared ≤ m'.shared → Sits (length ev') (length ops') f m'
+      → state_of B m' t' (length ev₀) (length ops₀) ≡ after x St
+      → Room m m' ev ev' ops ops' (entries (events x)) (store x) → m.shared ≤ m'.shared → Sits (length ev') (length ops') B.frame m'
       → Kept m.shared m.local t t' → length ev' ≡ length ev → length ops' ≡ length ops
-      → Going s skip f m₀ own t₀ ev₀ ops₀ t' ev' ops' m'
+      → Going B m₀ t₀ ev₀ ops₀ t' ev' ops' m'
   unfolding after
   going_with {m'} {t'} x z i r more sits kept p q = record {
     so_far = snoc g.so_far x;
     answer =
         g.answer
-        ∙ ap (mapped (joined g.so_far)) (rest_some f.left (those skip) (context f) St s f.end m.at z)
-        ∙ mapped_twice (◌then◌ x) (joined g.so_far) (joined (snoc g.so_far x)) (λ a. joined_then g.so_far x 0 a) (rest_of_block f.left (those skip) (context f) (after x St) s f.end m'.at)
-        ∙ ap (λ u. mapped (joined (snoc g.so_far x)) (rest_of_block f.left (those skip) (context f) u s f.end m'.at)) (sym i);
+        ∙ ap (mapped (joined g.so_far)) (rest_some B.frame.left (those B.skip.now) (context B.frame) St B.stream.now B.frame.end m.at z)
+        ∙ mapped_twice (◌then◌ x) (joined g.so_far) (joined (snoc g.so_far x)) (λ a. joined_then g.so_far x 0 a) (rest_of_block B.frame.left (those B.skip.now) (context B.frame) (after x St) B.stream.now B.frame.end m'.at)
+        ∙ ap (λ u. mapped (joined (snoc g.so_far x)) (rest_of_block B.frame.left (those B.skip.now) (context B.frame) u B.stream.now B.frame.end m'.at)) (sym i);
     room =
         room_as
         (sym (ap entries (events_joined g.so_far (◌then◌ x (done 0)) ∙ ap (λ l. all_events g.so_far ++ l) (one_event x)) ∙ entries_append (all_events g.so_far) (events x)))
@@ -264,26 +265,26 @@ module _ {s skip : List ℕ} {f : Frame} {m₀ : Marks} {own : List ℕ} {t₀ :
   }
 
   pub going_onward : {m' : Marks} {t' : Tables} {ev' ops' : List ℕ} → Kept m.shared m.local t t' → length ev' ≡ length ev → length ops' ≡ length ops
-      → Went s skip f m m' own t t' ev ev' ops ops' (opening_of s f m own t (length ev) (length ops))
-      → Going s skip f m₀ own t₀ ev₀ ops₀ t' ev' ops' m'
+      → Went B m m' t t' ev ev' ops ops' (opening_of B m t (length ev) (length ops))
+      → Going B m₀ t₀ ev₀ ops₀ t' ev' ops' m'
   going_onward k p q w =
       let st = rw (g.same_events, g.same_operands) at w.state in
       going_with w.piece (item_here w.gives) st w.room w.more w.sits k p q
 
   -- and comes nearer to the end
-  pub onward_less : {m' : Marks} {t' : Tables} {ev' ops' : List ℕ} → Went s skip f m m' own t t' ev ev' ops ops' (opening_of s f m own t (length ev) (length ops))
-      → limit s f.end - m'.at < limit s f.end - m.at
+  pub onward_less : {m' : Marks} {t' : Tables} {ev' ops' : List ℕ} → Went B m m' t t' ev ev' ops ops' (opening_of B m t (length ev) (length ops))
+      → limit B.stream.now B.frame.end - m'.at < limit B.stream.now B.frame.end - m.at
   onward_less w = let a = ahead (item_here w.gives) in omega (arith, a.past, a.inside)
 
   -- the block ends
   pub is_over : {m' : Marks} {t' : Tables} {ev' ops' : List ℕ} → Kept m.shared m.local t t'
-      → Ended s skip f m m' own t ev ev' ops ops' (opening_of s f m own t (length ev) (length ops)) → Visited s skip f m₀ m' t₀ t' ev₀ ev' ops₀ ops'
+      → Ended B m m' t ev ev' ops ops' (opening_of B m t (length ev) (length ops)) → Visited B.stream.now B.skip.now B.frame m₀ m' t₀ t' ev₀ ev' ops₀ ops'
   is_over {m'} {t'} k w = record {
     pieces = joined g.so_far (done m.at);
     gives =
         g.answer
-        ∙ mapped_got (joined g.so_far) (rest_none f.left (those skip) (context f) St s f.end m.at (item_here w.gives));
-    room = room_as (ap (λ l. entries l ++ entries (closed f)) (sym (events_ended g.so_far m.at))) (append-nil (all_store g.so_far) ∙ sym (store_ended g.so_far m.at)) (room_then g.room w.room);
+        ∙ mapped_got (joined g.so_far) (rest_none B.frame.left (those B.skip.now) (context B.frame) St B.stream.now B.frame.end m.at (item_here w.gives));
+    room = room_as (ap (λ l. entries l ++ entries (closed B.frame)) (sym (events_ended g.so_far m.at))) (append-nil (all_store g.so_far) ∙ sym (store_ended g.so_far m.at)) (room_then g.room w.room);
     shareds_are = ap (shareds t' 0) w.shared ∙ shareds_kept k m.shared (omega arith) (omega (arith, g.sits.shared)) ∙ g.shareds_are ∙ ap (λ l. shareds t₀ 0 m₀.shared ++ l) (sym (added_ended g.so_far m.at));
     more = omega (arith, w.shared, g.more);
     most = omega (arith, w.shared, g.sits.shared);
@@ -291,10 +292,10 @@ module _ {s skip : List ℕ} {f : Frame} {m₀ : Marks} {own : List ℕ} {t₀ :
   }
 
   is_off : {r : Refusal} → ItemHere ≡ refused r → Body ≡ refused r
-  is_off z = g.answer ∙ mapped_off (joined g.so_far) (rest_off f.left (those skip) (context f) St s f.end m.at z)
+  is_off z = g.answer ∙ mapped_off (joined g.so_far) (rest_off B.frame.left (those B.skip.now) (context B.frame) St B.stream.now B.frame.end m.at z)
 
   -- an item is refused
-  pub is_stopped : {r : Refusal} → completed s skip f (state_of f m own t (length ev) (length ops)) (opening_of s f m own t (length ev) (length ops)) ≡ refused r
+  pub is_stopped : {r : Refusal} → completed B (state_of B m t (length ev) (length ops)) (opening_of B m t (length ev) (length ops)) ≡ refused r
       → Body ≡ refused r
   is_stopped z = is_off (item_here z)
 
@@ -327,19 +328,19 @@ module _ (sub : Sub) (skips : Pass) (c : Context) (st : State) (s : List ℕ) (e
   unfolding item complete body_of give ◌>>=◌ onward when◌then◌else◌
   item_no_block z = rw (o, ne_eqb b 0 h, k, z)
 
-module _ {s skip : List ℕ} {f : Frame} {m₀ : Marks} {own : List ℕ} {t₀ : Tables} {ev₀ ops₀ : List ℕ} {t : Tables} {ev ops : List ℕ} {m u : Marks} {b w n : ℕ}
+module _ {B : Block} {m₀ : Marks} {t₀ : Tables} {ev₀ ops₀ : List ℕ} {t : Tables} {ev ops : List ℕ} {m u : Marks} {b w n : ℕ}
     {t' : Tables} {ev' ops' : List ℕ}
-    (g : Going s skip f m₀ own t₀ ev₀ ops₀ t ev ops m)
+    (g : Going B m₀ t₀ ev₀ ops₀ t ev ops m)
     (k : Kept m.shared m.local t t') (p : length ev' ≡ length ev) (q : length ops' ≡ length ops)
-    (d : Entered s skip f m u b w n ev ev' ops ops' (opening_of s f m own t (length ev) (length ops))) where
+    (d : Entered B m u b w n ev ev' ops ops' (opening_of B m t (length ev) (length ops))) where
   -- the nested block's frame, the state here, and the head
   abbrev Inner : Frame
-  Inner = frame b w (u.at / 8 + n) (f.left - 1) u.local
+  Inner = frame b w (u.at / 8 + n) (B.frame.left - 1) u.local
 
   abbrev Outer : State
-  Outer = state_of f m own t (length ev₀) (length ops₀)
+  Outer = state_of B m t (length ev₀) (length ops₀)
 
-  opens_here : opening (context f) Outer s f.end m.at ≡ got (headed m.at (head b w (u.at / 8) n)) u.at
+  opens_here : opening (context B.frame) Outer B.stream.now B.frame.end m.at ≡ got (headed m.at (head b w (u.at / 8) n)) u.at
   opens_here = rw (g.same_events, g.same_operands) at d.opens
 
   room_here : 0 < Outer.room
@@ -372,8 +373,8 @@ module _ {s skip : List ℕ} {f : Frame} {m₀ : Marks} {own : List ℕ} {t₀ :
       let e₇ : shareds t' 0 u.shared ≡ shareds t 0 m.shared = ap (shareds t' 0) e₁ ∙ e₆ in
       rw (e₇, e₂, e₅, e₄)
 
-  body_here : {x : Answer Refusal Pieces} → body_answer s skip Inner u t' (length ev') (length ops') ≡ x
-      → turns (λ k. items k (nested (f.left - 1) (those skip)) (those skip) (record { number = b; wide = w; top = false }) (entered b Outer)) s (u.at / 8 + n) u.at ≡ x
+  body_here : {x : Answer Refusal Pieces} → body_answer B.stream.now B.skip.now Inner u t' (length ev') (length ops') ≡ x
+      → turns (λ k. items k (nested (B.frame.left - 1) (those B.skip.now)) (those B.skip.now) (record { number = b; wide = w; top = false }) (entered b Outer)) B.stream.now (u.at / 8 + n) u.at ≡ x
   body_here z =
       let y = rw (p ∙ g.same_events, q ∙ g.same_operands) at z in
       rw inner_state at y
@@ -389,23 +390,23 @@ module _ {s skip : List ℕ} {f : Frame} {m₀ : Marks} {own : List ℕ} {t₀ :
   kept_nested k' = kept_item g (kept_both k')
 
   -- it is refused
-  pub is_refused : {r : Refusal} → body_answer s skip Inner u t' (length ev') (length ops') ≡ refused r → body_answer s skip f m₀ t₀ (length ev₀) (length ops₀) ≡ refused r
+  pub is_refused : {r : Refusal} → body_answer B.stream.now B.skip.now Inner u t' (length ev') (length ops') ≡ refused r → body_answer B.stream.now B.skip.now B.frame m₀ t₀ (length ev₀) (length ops₀) ≡ refused r
   is_refused z =
       is_off g
-      (item_no_block (nested f.left (those skip)) (those skip) (context f) Outer s f.end m.at u.at m.at b w (u.at / 8) n opens_here d.entered_is.0 d.entered_is.1
-      (nested_is f.left (those skip) m.at b w (u.at / 8) n Outer s f.end u.at d.levels room_here
-      ∙ within_off n _ s f.end u.at (body_here z)))
+      (item_no_block (nested B.frame.left (those B.skip.now)) (those B.skip.now) (context B.frame) Outer B.stream.now B.frame.end m.at u.at m.at b w (u.at / 8) n opens_here d.entered_is.0 d.entered_is.1
+      (nested_is B.frame.left (those B.skip.now) m.at b w (u.at / 8) n Outer B.stream.now B.frame.end u.at d.levels room_here
+      ∙ within_off n _ B.stream.now B.frame.end u.at (body_here z)))
 
   -- it ends: the parent goes on behind the declared length
   module _ {v : Marks} {t'' : Tables} {ev'' ops'' : List ℕ} (k' : Kept u.shared u.local t' t'') (p' : length ev'' ≡ length ev') (q' : length ops'' ≡ length ops')
-      (z : Visited s skip Inner u v t' t'' ev' ev'' ops' ops'') where
-    abbrev Block : Piece
-    Block = block m.at (head b w (u.at / 8) n) z.pieces
+      (z : Visited B.stream.now B.skip.now Inner u v t' t'' ev' ev'' ops' ops'') where
+    abbrev Nested : Piece
+    Nested = block m.at (head b w (u.at / 8) n) z.pieces
 
     abbrev Here : Marks
     Here = marks (u.at + 8 * n) v.events v.operands v.shared v.local
 
-    whole_room : Room m v ev ev'' ops ops'' (entries (events Block)) (store Block)
+    whole_room : Room m v ev ev'' ops ops'' (entries (events Nested)) (store Nested)
     unfolding events store entering leaving closed when◌then◌else◌ entries
     whole_room =
         room_as (ap (λ l. entry (enter b w (u.at / 8) n) ++ l) (sym (entries_append (all_events z.pieces) (leave b ∷ [])))) refl
@@ -414,41 +415,41 @@ module _ {s skip : List ℕ} {f : Frame} {m₀ : Marks} {own : List ℕ} {t₀ :
     local_here : v.local ≡ m.local
     local_here = z.freed ∙ ap (λ z. z.local) d.is
 
-    block_item : item (nested f.left (those skip)) (those skip) (context f) Outer s f.end m.at ≡ got (some Block) (u.at + 8 * n)
+    block_item : item (nested B.frame.left (those B.skip.now)) (those B.skip.now) (context B.frame) Outer B.stream.now B.frame.end m.at ≡ got (some Nested) (u.at + 8 * n)
     block_item =
-        item_block (nested f.left (those skip)) (those skip) (context f) Outer s f.end m.at u.at m.at b w (u.at / 8) n opens_here d.entered_is.0 d.entered_is.1
-        (nested_is f.left (those skip) m.at b w (u.at / 8) n Outer s f.end u.at d.levels room_here
-        ∙ within_got n _ s f.end u.at (body_here z.gives))
+        item_block (nested B.frame.left (those B.skip.now)) (those B.skip.now) (context B.frame) Outer B.stream.now B.frame.end m.at u.at m.at b w (u.at / 8) n opens_here d.entered_is.0 d.entered_is.1
+        (nested_is B.frame.left (those B.skip.now) m.at b w (u.at / 8) n Outer B.stream.now B.frame.end u.at d.levels room_here
+        ∙ within_got n _ B.stream.now B.frame.end u.at (body_here z.gives))
 
-    behind_state : state_of f Here own t'' (length ev₀) (length ops₀) ≡ after Block Outer
+    behind_state : state_of B Here t'' (length ev₀) (length ops₀) ≡ after Nested Outer
     unfolding after added Rattle.walk.specs.Piece.own
     behind_state =
         let l = room_lengths {m = m} g.sits.events g.sits.operands whole_room in
-        let e = entries_length (events Block) in
-        let c = count_events Block in
+        let e = entries_length (events Nested) in
+        let c = count_events Nested in
         let i = d.is in
         let s₁ : u.shared ≡ m.shared = ap (λ z. z.shared) i in
         let x₀ : shareds t'' 0 v.shared ≡ shareds t 0 m.shared ++ all_added z.pieces =
         z.shareds_are ∙ ap (λ l. l ++ all_added z.pieces) (ap (shareds t' 0) s₁ ∙ shareds_kept k m.shared (omega arith) (omega (arith, g.sits.shared))) in
-        let x₁ : block_rows t'' own f.base v.local ≡ block_rows t own f.base m.local ++ [] =
-        ap (block_rows t'' own f.base) local_here ∙ block_rows_kept (kept_both k') own f.base g.below (omega (arith, g.sits.shared)) g.sits.base
-        ∙ sym (append-nil (block_rows t own f.base m.local)) in
+        let x₁ : block_rows t'' B.own.now B.frame.base v.local ≡ block_rows t B.own.now B.frame.base m.local ++ [] =
+        ap (block_rows t'' B.own.now B.frame.base) local_here ∙ block_rows_kept (kept_both k') B.own.now B.frame.base g.below (omega (arith, g.sits.shared)) g.sits.base
+        ∙ sym (append-nil (block_rows t B.own.now B.frame.base m.local)) in
         let x₂ : v.local ≡ m.local + 0 = omega (arith, local_here) in
-        let x₃ : (length ev₀ - v.events) / event_size ≡ (length ev₀ - m.events) / event_size - counted Block = omega (arith, l.0, e, c) in
-        let x₄ : v.operands ≡ m.operands + length (store Block) = l.1 in
-        let x₅ : length ops₀ - v.operands ≡ length ops₀ - m.operands - length (store Block) = omega (arith, l.1) in
+        let x₃ : (length ev₀ - v.events) / event_size ≡ (length ev₀ - m.events) / event_size - counted Nested = omega (arith, l.0, e, c) in
+        let x₄ : v.operands ≡ m.operands + length (store Nested) = l.1 in
+        let x₅ : length ops₀ - v.operands ≡ length ops₀ - m.operands - length (store Nested) = omega (arith, l.1) in
         cc
 
-    pub going_behind : Going s skip f m₀ own t₀ ev₀ ops₀ t'' ev'' ops'' Here
+    pub going_behind : Going B m₀ t₀ ev₀ ops₀ t'' ev'' ops'' Here
     going_behind =
         let i = d.is in
         let s₁ : u.shared ≡ m.shared = ap (λ z. z.shared) i in
-        going_with g Block block_item behind_state
+        going_with g Nested block_item behind_state
         (record { events = whole_room.events; operands = whole_room.operands; most_events = whole_room.most_events; most_operands = whole_room.most_operands })
         (omega (arith, z.more))
         (record { events = whole_room.most_events; operands = whole_room.most_operands; shared = z.most; base = omega (arith, local_here, g.sits.base); local = omega (arith, local_here, g.sits.local) })
         (kept_both k') (p' ∙ p) (q' ∙ q)
 
     -- and comes nearer to the end
-    pub behind_less : limit s f.end - (u.at + 8 * n) < limit s f.end - m.at
+    pub behind_less : limit B.stream.now B.frame.end - (u.at + 8 * n) < limit B.stream.now B.frame.end - m.at
     behind_less = let a = ahead g block_item in omega (arith, a.past, a.inside)

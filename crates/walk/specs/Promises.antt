@@ -1,6 +1,6 @@
 -- What the values, the tables and the stores of the code stand for: the relations that the walk's functions promise to each other. The public call's
 -- contract cites only `answer` of these. Assumes nothing.
-use Rattle.std.specs.Prelude.{◌≡◌, false, List, [], ◌∷◌, ◌++◌, ℕ, suc, ◌+◌, ◌-◌, ◌*◌, ◌/◌, ◌≤◌, ◌<◌, length, take, replicate, Result, Ok, Err}
+use Rattle.std.specs.Prelude.{◌≡◌, true, false, List, [], ◌∷◌, ◌++◌, ℕ, suc, ◌+◌, ◌-◌, ◌*◌, ◌/◌, ◌≤◌, ◌<◌, length, take, replicate, Result, Ok, Err}
 use Rattle.std.proofs.Math.Option.{Option, none as nothing, some}
 use Rattle.terms.specs.Limits.{event_size, max_shared, max_local}
 use Rattle.terms.specs.Refusals.{No, Refusal, no_of, number_of, first_of, second_of, refusal_of}
@@ -16,16 +16,17 @@ use Rattle.bitcode.specs.declared.ScalarOperand.{ScalarOperand}
 use Rattle.abbrev.specs.Abbrev.{Payload, none, blob, array, Abbrev}
 use Rattle.abbrev.specs.BlockInfo.{shared_for}
 use Rattle.bitcode.specs.Scalar.{value}
-use Rattle.abbrev.specs.Tables.{Tables, tables, shareds, block_rows}
+use Rattle.abbrev.specs.Tables.{Tables, tables, shareds, block_rows, Below}
 use Rattle.abbrev.specs.declared.Abbreviations.{Abbreviations}
 use Rattle.walk.specs.Record.{Load, no_load, list_load, blob_load, Record, a_record, values, repeated, bytes, scalar_part, unabbreviated, array_kind, rest, load_list, record_list}
 use Rattle.walk.specs.Piece.{Head, head, Piece, Pieces, Event, enter, leave, record_event, record_of, events, all_events, store, all_store, all_added, State, after}
 use Rattle.walk.specs.Item.{Context, heading, Opening, headed, begun, fits, finish, opening, complete, items, nested}
-use Rattle.walk.specs.Walk.{entry, entries, those, top_items, filled, Result as Told, no_header}
+use Rattle.walk.specs.Walk.{entry, entries, those, listed, top_items, filled, Result as Told, no_header}
 use Rattle.walk.specs.declared.Accepted.{Accepted}
 use Rattle.walk.specs.declared.Walked.{Walked}
 use Rattle.walk.specs.declared.Marks.{Marks}
 use Rattle.walk.specs.declared.Frame.{Frame}
+use Rattle.walk.specs.declared.Block.{Block}
 use Rattle.walk.specs.declared.RecordRead.{RecordRead}
 use Rattle.walk.specs.declared.BlockHead.{BlockHead}
 use Rattle.walk.specs.declared.Step.{Step}
@@ -79,14 +80,14 @@ frame number width end left base = record { number = number; width = width; end 
 abbrev pub marks : ℕ → ℕ → ℕ → ℕ → ℕ → Marks
 marks at events operands shared local = record { at = at; events = events; operands = operands; shared = shared; local = local }
 
--- ---- the definition's state, computed from the marks, the tables and the sizes of the stores; `own` are the block's shared rows
+-- ---- the definition's state, computed from the marks, the tables and the sizes of the stores
 abbrev pub context : Frame → Context
 context f = record { number = f.number; wide = f.width; top = f.top }
 
-abbrev pub state_of : Frame → Marks → List ℕ → Tables → ℕ → ℕ → State
-state_of f m own t ne nops = record {
+abbrev pub state_of : Block → Marks → Tables → ℕ → ℕ → State
+state_of B m t ne nops = record {
   shareds = shareds t 0 m.shared;
-  mine = block_rows t own f.base m.local;
+  mine = block_rows t B.own.now B.frame.base m.local;
   locals = m.local;
   room = (ne - m.events) / event_size;
   fill = m.operands;
@@ -112,6 +113,10 @@ pub record Sits (ne nops : ℕ) (f : Frame) (m : Marks) : Type 0 where
   pub base : f.base ≤ m.local
   pub local : m.local ≤ max_local
 
+-- the same of the block that is walked, and its shared rows are in front of the marks
+abbrev pub Stands : Block → Marks → List ℕ → List ℕ → Type 0
+Stands B m ev ops = Sits (length ev) (length ops) B.frame m × Below m.shared B.own.now
+
 -- the marks m' are behind m: es more numbers are in the event store, os in the operand store
 pub record Room (m m' : Marks) (ev ev' ops ops' es os : List ℕ) : Type 0 where
   pub events : take m'.events ev' ≡ take m.events ev ++ es
@@ -128,59 +133,74 @@ abbrev pub Behind : Frame → Cursor → Type 0
 Behind f d = d.end ≡ f.end
 
 -- ---- one item: x is what its opening answers
-abbrev pub completed : List ℕ → List ℕ → Frame → State → Answer Refusal Opening → Answer Refusal (Option Piece)
-completed s skip f st x = onward x (λ o q. complete (nested f.left (those skip)) (those skip) st o s f.end q)
+abbrev pub completed : Block → State → Answer Refusal Opening → Answer Refusal (Option Piece)
+completed B st x = onward x (λ o q. complete (nested B.frame.left (those B.skip.now)) (those B.skip.now) st o B.stream.now B.frame.end q)
 
-abbrev pub opening_of : List ℕ → Frame → Marks → List ℕ → Tables → ℕ → ℕ → Answer Refusal Opening
-opening_of s f m own t ne nops = opening (context f) (state_of f m own t ne nops) s f.end m.at
+abbrev pub opening_of : Block → Marks → Tables → ℕ → ℕ → Answer Refusal Opening
+opening_of B m t ne nops = opening (context B.frame) (state_of B m t ne nops) B.stream.now B.frame.end m.at
 
 -- its number has been read: n, and the cursor behind it
 abbrev pub numbered : Context → State → ℕ → ℕ → Reader Refusal Opening
 numbered c st from n = placed from (begun c st n) >>= finish c st from
 
-abbrev pub numbered_of : List ℕ → Frame → Marks → List ℕ → Tables → ℕ → ℕ → ℕ → Cursor → Answer Refusal Opening
-numbered_of s f m own t ne nops n d = numbered (context f) (state_of f m own t ne nops) m.at n s f.end d.at
+abbrev pub numbered_of : Block → Marks → Tables → ℕ → ℕ → ℕ → Cursor → Answer Refusal Opening
+numbered_of B m t ne nops n d = numbered (context B.frame) (state_of B m t ne nops) m.at n B.stream.now B.frame.end d.at
 
 -- a block's head has been read
 abbrev pub headed_at : Marks → ℕ → ℕ → ℕ → Cursor → Answer Refusal Opening
 headed_at m b w n g = got (headed m.at (head b w (g.at / 8) n)) g.at
 
 -- the walk goes on behind a piece
-pub record Went (s skip : List ℕ) (f : Frame) (m m' : Marks) (own : List ℕ) (t t' : Tables) (ev ev' ops ops' : List ℕ) (x : Answer Refusal Opening) : Type 0 where
+pub record Went (B : Block) (m m' : Marks) (t t' : Tables) (ev ev' ops ops' : List ℕ) (x : Answer Refusal Opening) : Type 0 where
   pub piece : Piece
-  pub gives : completed s skip f (state_of f m own t (length ev) (length ops)) x ≡ got (some piece) m'.at
-  pub state : state_of f m' own t' (length ev) (length ops) ≡ after piece (state_of f m own t (length ev) (length ops))
+  pub gives : completed B (state_of B m t (length ev) (length ops)) x ≡ got (some piece) m'.at
+  pub state : state_of B m' t' (length ev) (length ops) ≡ after piece (state_of B m t (length ev) (length ops))
   pub room : Room m m' ev ev' ops ops' (entries (events piece)) (store piece)
   pub more : m.shared ≤ m'.shared
-  pub sits : Sits (length ev') (length ops') f m'
+  pub sits : Sits (length ev') (length ops') B.frame m'
 
 -- it goes into a block
-pub record Entered (s skip : List ℕ) (f : Frame) (m m' : Marks) (b w n : ℕ) (ev ev' ops ops' : List ℕ) (x : Answer Refusal Opening) : Type 0 where
+pub record Entered (B : Block) (m m' : Marks) (b w n : ℕ) (ev ev' ops ops' : List ℕ) (x : Answer Refusal Opening) : Type 0 where
   pub opens : x ≡ got (headed m.at (head b w (m'.at / 8) n)) m'.at
-  pub entered_is : (b ≡ 0 → ⊥) × (those skip m.at b ≡ false)
-  pub levels : 0 < f.left
+  pub entered_is : (b ≡ 0 → ⊥) × (those B.skip.now m.at b ≡ false)
+  pub levels : 0 < B.frame.left
   pub spare : 0 < (length ev - m.events) / event_size
   pub is : m' ≡ marks m'.at (m.events + event_size) m.operands m.shared m.local
   pub room : Room m m' ev ev' ops ops' (entry (enter b w (m'.at / 8) n)) []
-  pub fits : m'.at + 8 * n ≤ limit s f.end
+  pub fits : m'.at + 8 * n ≤ limit B.stream.now B.frame.end
 
 -- the block ends: its local abbreviations are free
-pub record Ended (s skip : List ℕ) (f : Frame) (m m' : Marks) (own : List ℕ) (t : Tables) (ev ev' ops ops' : List ℕ) (x : Answer Refusal Opening) : Type 0 where
-  pub gives : completed s skip f (state_of f m own t (length ev) (length ops)) x ≡ got nothing m'.at
-  pub room : Room m m' ev ev' ops ops' (entries (closed f)) []
+pub record Ended (B : Block) (m m' : Marks) (t : Tables) (ev ev' ops ops' : List ℕ) (x : Answer Refusal Opening) : Type 0 where
+  pub gives : completed B (state_of B m t (length ev) (length ops)) x ≡ got nothing m'.at
+  pub room : Room m m' ev ev' ops ops' (entries (closed B.frame)) []
   pub shared : m'.shared ≡ m.shared
-  pub freed : m'.local ≡ f.base
+  pub freed : m'.local ≡ B.frame.base
 
-abbrev pub Does : List ℕ → List ℕ → Frame → Marks → List ℕ → Tables → Tables → List ℕ → List ℕ → List ℕ → List ℕ → Answer Refusal Opening → Result Step Refused → Type 0
-Does s skip f m own t t' ev ev' ops ops' x (Ok (S.Go m')) = Went s skip f m m' own t t' ev ev' ops ops' x
-Does s skip f m own t t' ev ev' ops ops' x (Ok (S.Into m' h)) = Entered s skip f m m' h.block h.width h.length ev ev' ops ops' x
-Does s skip f m own t t' ev ev' ops ops' x (Ok (S.End m')) = Ended s skip f m m' own t ev ev' ops ops' x
-Does s skip f m own t t' ev ev' ops ops' x (Err r) =
-    completed s skip f (state_of f m own t (length ev) (length ops)) x ≡ refused (refusal_of r)
+abbrev pub Does : Block → Marks → Tables → Tables → List ℕ → List ℕ → List ℕ → List ℕ → Answer Refusal Opening → Result Step Refused → Type 0
+Does B m t t' ev ev' ops ops' x (Ok (S.Go m')) = Went B m m' t t' ev ev' ops ops' x
+Does B m t t' ev ev' ops ops' x (Ok (S.Into m' h)) = Entered B m m' h.block h.width h.length ev ev' ops ops' x
+Does B m t t' ev ev' ops ops' x (Ok (S.End m')) = Ended B m m' t ev ev' ops ops' x
+Does B m t t' ev ev' ops ops' x (Err r) =
+    completed B (state_of B m t (length ev) (length ops)) x ≡ refused (refusal_of r)
 
--- what a part of the item does: its refusal gets the item's place
-abbrev pub DoesIn : List ℕ → List ℕ → Frame → Marks → List ℕ → Tables → Tables → List ℕ → List ℕ → List ℕ → List ℕ → Answer Refusal Opening → Result Step Reason → Type 0
-DoesIn s skip f m own t t' ev ev' ops ops' x r = Does s skip f m own t t' ev ev' ops ops' x (placed_at m.at r)
+-- what the next item of the block does
+abbrev pub DoesNext : Block → Marks → Tables → Tables → List ℕ → List ℕ → List ℕ → List ℕ → Result Step Refused → Type 0
+DoesNext B m t t' ev ev' ops ops' r = Does B m t t' ev ev' ops ops' (opening_of B m t (length ev) (length ops)) r
+
+-- what it does where its number n has been read, and d is behind it
+abbrev pub DoesNumber : Block → Marks → ℕ → Cursor → Tables → Tables → List ℕ → List ℕ → List ℕ → List ℕ → Result Step Refused → Type 0
+DoesNumber B m n d t t' ev ev' ops ops' r = Does B m t t' ev ev' ops ops' (numbered_of B m t (length ev) (length ops) n d) r
+
+-- and where a block's head has been read, and g is behind it
+abbrev pub DoesHead : Block → Marks → BlockHead → Cursor → Tables → Tables → List ℕ → List ℕ → List ℕ → List ℕ → Result Step Refused → Type 0
+DoesHead B m h g t t' ev ev' ops ops' r = Does B m t t' ev ev' ops ops' (headed_at m h.block h.width h.length g) r
+
+-- the head is of a block that is passed over, or of one that is entered
+abbrev pub Passing : Block → BlockHead → Type 0
+Passing B h = (h.block ≡ 0 → ⊥) × (listed h.block B.skip.now ≡ true)
+
+abbrev pub Entering : Block → BlockHead → Type 0
+Entering B h = (h.block ≡ 0 → ⊥) × (listed h.block B.skip.now ≡ false)
 
 -- ---- a whole block
 abbrev pub body_answer : List ℕ → List ℕ → Frame → Marks → Tables → ℕ → ℕ → Answer Refusal Pieces

@@ -9,10 +9,11 @@ ghost use Rattle.bits.specs.Told.{Gives, of_read};
 ghost use Rattle.bitcode.specs.Scalar.{value};
 ghost use Rattle.bitcode.specs.declared.ScalarOperand.TheVariants.{Char6};
 ghost use Rattle.abbrev.specs.Abbrev.{array, blob};
-ghost use Rattle.abbrev.specs.Tables.{row_size, slot_count, Tables, slots, abbrev_of, Whole, Kept, Below};
+ghost use Rattle.abbrev.specs.Tables.{row_size, slot_count, Tables, slots, abbrev_of, Whole, Kept};
 ghost use Rattle.walk.specs.Record.{repeated, array_kind};
-ghost use Rattle.walk.specs.Walk.{listed as listed_in, walked};
-ghost use Rattle.walk.specs.Promises.{numbers_of, placed_at, held, Written, ReadsEach, frame, Sits, Behind, Does, DoesIn, opening_of, numbered_of, headed_at, Is, Runs, Scalars, Recorded, plain, abbreviated, load, Loaded, blob_bytes, head_length, head_width, head_fits, Heads, Tells, Streams, Denies, Accepts, answer};
+ghost use Rattle.walk.specs.Walk.{walked};
+ghost use Rattle.walk.specs.declared.Block.{Block};
+ghost use Rattle.walk.specs.Promises.{numbers_of, placed_at, held, Written, ReadsEach, frame, Sits, Stands, Behind, Passing, Entering, DoesNext, DoesNumber, DoesHead, Is, Runs, Scalars, Recorded, plain, abbreviated, load, Loaded, blob_bytes, head_length, head_width, head_fits, Heads, Tells, Streams, Denies, Accepts, answer};
 
 use abbrev::{ARRAY_SHAPE, AbbrevNumber, Abbreviations, BlockNumber, LOCAL, ROW, SLOTS};
 use bitcode::{ScalarOperand, Signature};
@@ -82,6 +83,15 @@ struct Frame {
     left: u64,
     top: bool,
     base: usize,
+}
+
+// The block that is walked: the stream and the skip list, the shared rows that were for the block when it was entered, and its frame.
+#[derive(Clone, Copy)]
+struct Block<'a> {
+    stream: &'a [u8],
+    skip: &'a [u64],
+    own: &'a [u8],
+    frame: Frame,
 }
 
 // A record as it was read: its code, how many operands, its payload's kind, place and length, and the operand store's fill mark behind it.
@@ -452,73 +462,269 @@ fn read_head(c: Cursor, s: &[u8]) -> Result<(BlockHead, Cursor), Reason>
     read_head_width(d, s, block)
 }
 
-// At the end of the bits: the top level ends; a block has no end mark.
-fn end_of(f: Frame, m: Marks) -> Result<Step, Reason>
-    ensures { (s skip own ev ops : List ℕ) (t : Tables) → Sits (length ev) (length ops) f m → limit s f.end ≤ m.at → DoesIn s skip f m own t t ev ev ops ops (opening_of s f m own t (length ev) (length ops)) result }
-{
-    if f.top {
-        return Ok(Step::End(Marks { local: f.base, ..m }));
+impl<'a> Block<'a> {
+    // At the end of the bits: the top level ends; a block has no end mark.
+    fn end_of(&self, m: Marks) -> Result<Step, Reason>
+        requires { limit self.now.stream.now self.now.frame.end ≤ m.at }
+        ensures { (ev ops : List ℕ) (t : Tables) → Stands self.now m ev ops → DoesNext self.now m t t ev ev ops ops (placed_at m.at result) }
+    {
+        let f = self.frame;
+        if f.top {
+            return Ok(Step::End(Marks { local: f.base, ..m }));
+        }
+        Err(Reason::MissingEndBlock(f.number))
     }
-    Err(Reason::MissingEndBlock(f.number))
-}
 
-// Number 0: align, and leave.
-fn leave(s: &[u8], f: Frame, m: Marks, d: Cursor, events: &mut [u64]) -> Result<Step, Reason>
-    requires { (m.events ≤ length events.old) × Behind f d }
-    ensures { (skip own ops : List ℕ) (t : Tables) → Sits (length events.old) (length ops) f m → DoesIn s.now skip f m own t t events.old events.new ops ops (numbered_of s.now f m own t (length events.old) (length ops) 0 d) result }
-{
-    let g = d.align32(s)?;
-    let behind = Marks {
-        at: g.at,
-        local: f.base,
-        ..m
-    };
-    if f.top {
-        return Ok(Step::End(behind));
+    // Number 0: align, and leave.
+    fn leave(&self, m: Marks, d: Cursor, events: &mut [u64]) -> Result<Step, Reason>
+        requires { (m.events ≤ length events.old) × Behind self.now.frame d }
+        ensures { (ops : List ℕ) (t : Tables) → Stands self.now m events.old ops → DoesNumber self.now m 0 d t t events.old events.new ops ops (placed_at m.at result) }
+    {
+        let g = d.align32(self.stream)?;
+        let behind = Marks {
+            at: g.at,
+            local: self.frame.base,
+            ..m
+        };
+        if self.frame.top {
+            return Ok(Step::End(behind));
+        }
+        put_event(
+            events,
+            m.events,
+            [LEAVE, self.frame.number, 0, 0, 0, 0, 0, 0],
+        )?;
+        let events = m.events + EVENT_SIZE;
+        Ok(Step::End(Marks { events, ..behind }))
     }
-    put_event(events, m.events, [LEAVE, f.number, 0, 0, 0, 0, 0, 0])?;
-    let events = m.events + EVENT_SIZE;
-    Ok(Step::End(Marks { events, ..behind }))
-}
 
-// A BLOCKINFO: what it adds stands in the shared rows behind it, and it gives no event.
-fn read_info(
-    s: &[u8],
-    m: Marks,
-    head: BlockHead,
-    g: Cursor,
-    tables: &mut Abbreviations,
-) -> Result<Step, Refused>
-    requires whole { Whole (held tables.old) }
-    requires in_range { (m.shared ≤ max_shared) × (m.local ≤ max_local) × (g.at + 8 * head.length ≤ 18446744073709551615) }
-    ensures kept { Kept m.shared m.local (held tables.old) (held tables.new) }
-    ensures does { (f : Frame) (skip own ev ops : List ℕ) → Below m.shared own → Sits (length ev) (length ops) f m → Does s.now skip f m own (held tables.old) (held tables.new) ev ev ops ops (headed_at m 0 head.width head.length g) result }
-{
-    let c = Cursor {
-        at: g.at,
-        end: g.at / 8 + head.length,
-    };
-    let shared = abbrev::read_block_info_block(
-        c,
-        s,
-        head.width,
-        &mut tables.kinds,
-        &mut tables.widths,
-        &mut tables.shapes,
-        &mut tables.owners,
-        m.shared,
-    )?;
-    Ok(Step::Go(Marks {
-        at: g.at + 8 * head.length,
-        shared,
-        ..m
-    }))
+    // A BLOCKINFO: what it adds stands in the shared rows behind it, and it gives no event.
+    fn read_info(
+        &self,
+        m: Marks,
+        head: BlockHead,
+        g: Cursor,
+        tables: &mut Abbreviations,
+    ) -> Result<Step, Refused>
+        requires whole { Whole (held tables.old) }
+        requires in_range { (m.shared ≤ max_shared) × (m.local ≤ max_local) × (g.at + 8 * head.length ≤ 18446744073709551615) }
+        requires zero { head.block ≡ 0 }
+        ensures kept { Kept m.shared m.local (held tables.old) (held tables.new) }
+        ensures does { (ev ops : List ℕ) → Stands self.now m ev ops → DoesHead self.now m head g (held tables.old) (held tables.new) ev ev ops ops result }
+    {
+        let c = Cursor {
+            at: g.at,
+            end: g.at / 8 + head.length,
+        };
+        let shared = abbrev::read_block_info_block(
+            c,
+            self.stream,
+            head.width,
+            &mut tables.kinds,
+            &mut tables.widths,
+            &mut tables.shapes,
+            &mut tables.owners,
+            m.shared,
+        )?;
+        Ok(Step::Go(Marks {
+            at: g.at + 8 * head.length,
+            shared,
+            ..m
+        }))
+    }
+
+    // A block that is entered, up to its body.
+    fn open_block(
+        &self,
+        m: Marks,
+        head: BlockHead,
+        g: Cursor,
+        events: &mut [u64],
+    ) -> Result<Step, Reason>
+        requires { (m.events ≤ length events.old) × Entering self.now head × (g.at + 8 * head.length ≤ limit self.now.stream.now self.now.frame.end) }
+        ensures { (ops : List ℕ) (t : Tables) → Stands self.now m events.old ops → DoesHead self.now m head g t t events.old events.new ops ops (placed_at m.at result) }
+    {
+        if self.frame.left == 0 {
+            return Err(Reason::TooDeep(head.block));
+        }
+        let e = [
+            ENTER,
+            head.block,
+            head.width,
+            g.at / 8,
+            head.length,
+            0,
+            0,
+            0,
+        ];
+        put_event(events, m.events, e)?;
+        let inside = Marks {
+            at: g.at,
+            events: m.events + EVENT_SIZE,
+            ..m
+        };
+        Ok(Step::Into(inside, head))
+    }
+
+    // Number 1: a nested block, up to its body.
+    fn enter_sub_block(
+        &self,
+        m: Marks,
+        d: Cursor,
+        tables: &mut Abbreviations,
+        events: &mut [u64],
+    ) -> Result<Step, Refused>
+        requires whole { Whole (held tables.old) }
+        requires in_range { (m.events ≤ length events.old) × (m.shared ≤ max_shared) × (m.local ≤ max_local) × Behind self.now.frame d }
+        ensures kept { Kept m.shared m.local (held tables.old) (held tables.new) }
+        ensures does { (ops : List ℕ) → Stands self.now m events.old ops → DoesNumber self.now m 1 d (held tables.old) (held tables.new) events.old events.new ops ops result }
+    {
+        let (head, g) = m.placed(read_head(d, self.stream))?;
+        if head.block == 0 {
+            return self.read_info(m, head, g, tables);
+        }
+        if self.skip.contains(&head.block) {
+            return m.placed(pass_over(m, head, g, events));
+        }
+        m.placed(self.open_block(m, head, g, events))
+    }
+
+    // Number 2: a local definition. It is read into the next local row; its room is tested behind it.
+    fn define_local(&self, m: Marks, d: Cursor, tables: &mut Abbreviations) -> Result<Step, Reason>
+        requires whole { Whole (held tables.old) }
+        requires in_range { (m.shared ≤ max_shared) × (m.local ≤ max_local) × Behind self.now.frame d }
+        ensures kept { Kept m.shared m.local (held tables.old) (held tables.new) }
+        ensures does { (ev ops : List ℕ) → Stands self.now m ev ops → DoesNumber self.now m 2 d (held tables.old) (held tables.new) ev ev ops ops (placed_at m.at result) }
+    {
+        let row = LOCAL + m.local;
+        let (shape, g) = abbrev::define_abbrev(
+            d,
+            self.stream,
+            &mut tables.kinds,
+            &mut tables.widths,
+            row,
+        )?;
+        if MAX_LOCAL <= m.local {
+            return Err(Reason::NoAbbreviationRoom);
+        }
+        tables.shapes[row] = shape;
+        Ok(Step::Go(Marks {
+            at: g.at,
+            local: m.local + 1,
+            ..m
+        }))
+    }
+
+    // A record's event, where there is room for one.
+    fn tell_record(
+        &self,
+        m: Marks,
+        r: RecordRead,
+        at: u64,
+        events: &mut [u64],
+    ) -> Result<Step, Reason>
+        requires { m.events ≤ length events.old }
+        ensures { Tells self.now.frame m r at events.old events.new result }
+    {
+        let first = m.operands as u64;
+        let e = [
+            RECORD,
+            self.frame.number,
+            r.code,
+            first,
+            r.count,
+            r.kind,
+            r.at,
+            r.length,
+        ];
+        put_event(events, m.events, e)?;
+        Ok(Step::Go(Marks {
+            at,
+            events: m.events + EVENT_SIZE,
+            operands: r.fill,
+            ..m
+        }))
+    }
+
+    // Number 3: a record with no abbreviation.
+    fn record_plain(
+        &self,
+        m: Marks,
+        d: Cursor,
+        events: &mut [u64],
+        operands: &mut [u64],
+    ) -> Result<Step, Reason>
+        requires { Stands self.now m events.old operands.old × Behind self.now.frame d }
+        ensures { (t : Tables) → DoesNumber self.now m 3 d t t events.old events.new operands.old operands.new (placed_at m.at result) }
+    {
+        let (r, g) = read_unabbreviated(d, self.stream, operands, m.operands)?;
+        self.tell_record(m, r, g.at, events)
+    }
+
+    // A number from 4 on: a record by its abbreviation.
+    fn record_abbreviated(
+        &self,
+        m: Marks,
+        n: u64,
+        d: Cursor,
+        tables: &Abbreviations,
+        events: &mut [u64],
+        operands: &mut [u64],
+    ) -> Result<Step, Reason>
+        requires whole { Whole (held tables.now) }
+        requires stands { Stands self.now m events.old operands.old × Behind self.now.frame d × (4 ≤ n) }
+        ensures { DoesNumber self.now m n d (held tables.now) (held tables.now) events.old events.new operands.old operands.new (placed_at m.at result) }
+    {
+        let block = BlockNumber(self.frame.number);
+        let row = abbrev::look_up(block, AbbrevNumber(n), self.own, self.frame.base, m.local)?;
+        let shape = tables.shapes[row];
+        let (r, g) = read_abbreviated(
+            d,
+            self.stream,
+            tables,
+            ROW * row,
+            shape,
+            operands,
+            m.operands,
+        )?;
+        self.tell_record(m, r, g.at, events)
+    }
+
+    // The next item of the block.
+    fn try_next(
+        &self,
+        m: Marks,
+        tables: &mut Abbreviations,
+        ev: &mut [u64],
+        ops: &mut [u64],
+    ) -> Result<Step, Refused>
+        requires whole { Whole (held tables.old) }
+        requires stands { Stands self.now m ev.old ops.old }
+        ensures kept { Kept m.shared m.local (held tables.old) (held tables.new) }
+        ensures does { DoesNext self.now m (held tables.old) (held tables.new) ev.old ev.new ops.old ops.new result }
+    {
+        let c = Cursor {
+            at: m.at,
+            end: self.frame.end,
+        };
+        if c.is_at_end(self.stream) {
+            return m.placed(self.end_of(m));
+        }
+        let (n, d) = m.placed(abbrev::read_number(c, self.stream, self.frame.width))?;
+        match n {
+            0 => m.placed(self.leave(m, d, ev)),
+            1 => self.enter_sub_block(m, d, tables, ev),
+            2 => m.placed(self.define_local(m, d, tables)),
+            3 => m.placed(self.record_plain(m, d, ev, ops)),
+            _ => m.placed(self.record_abbreviated(m, n, d, tables, ev, ops)),
+        }
+    }
 }
 
 // A block of the skip list: a skip event, and its body stays unread.
 fn pass_over(m: Marks, head: BlockHead, g: Cursor, events: &mut [u64]) -> Result<Step, Reason>
     requires { (m.events ≤ length events.old) × (g.at + 8 * head.length ≤ 18446744073709551615) }
-    ensures { (s skip own ops : List ℕ) (f : Frame) (t : Tables) → (head.block ≡ 0 → ⊥) → listed_in head.block skip ≡ true → Sits (length events.old) (length ops) f m → DoesIn s skip f m own t t events.old events.new ops ops (headed_at m head.block head.width head.length g) result }
+    ensures { (b : Block) (ops : List ℕ) (t : Tables) → Passing b head → Stands b m events.old ops → DoesHead b m head g t t events.old events.new ops ops (placed_at m.at result) }
 {
     let e = [SKIP, head.block, head.width, g.at / 8, head.length, 0, 0, 0];
     put_event(events, m.events, e)?;
@@ -527,185 +733,6 @@ fn pass_over(m: Marks, head: BlockHead, g: Cursor, events: &mut [u64]) -> Result
         events: m.events + EVENT_SIZE,
         ..m
     }))
-}
-
-// A block that is entered, up to its body.
-fn open_block(
-    f: Frame,
-    m: Marks,
-    head: BlockHead,
-    g: Cursor,
-    events: &mut [u64],
-) -> Result<Step, Reason>
-    requires { m.events ≤ length events.old }
-    ensures { (s skip own ops : List ℕ) (t : Tables) → (head.block ≡ 0 → ⊥) → listed_in head.block skip ≡ false → Sits (length events.old) (length ops) f m → g.at + 8 * head.length ≤ limit s f.end → DoesIn s skip f m own t t events.old events.new ops ops (headed_at m head.block head.width head.length g) result }
-{
-    if f.left == 0 {
-        return Err(Reason::TooDeep(head.block));
-    }
-    let e = [
-        ENTER,
-        head.block,
-        head.width,
-        g.at / 8,
-        head.length,
-        0,
-        0,
-        0,
-    ];
-    put_event(events, m.events, e)?;
-    let inside = Marks {
-        at: g.at,
-        events: m.events + EVENT_SIZE,
-        ..m
-    };
-    Ok(Step::Into(inside, head))
-}
-
-// Number 1: a nested block, up to its body.
-fn enter_sub_block(
-    s: &[u8],
-    skip: &[u64],
-    f: Frame,
-    m: Marks,
-    d: Cursor,
-    tables: &mut Abbreviations,
-    events: &mut [u64],
-) -> Result<Step, Refused>
-    requires whole { Whole (held tables.old) }
-    requires events_in_range { (m.events ≤ length events.old) × (m.shared ≤ max_shared) × (f.base ≤ m.local) × (m.local ≤ max_local) × Behind f d }
-    ensures kept { Kept m.shared m.local (held tables.old) (held tables.new) }
-    ensures does { (own ops : List ℕ) → Below m.shared own → Sits (length events.old) (length ops) f m → Does s.now skip.now f m own (held tables.old) (held tables.new) events.old events.new ops ops (numbered_of s.now f m own (held tables.old) (length events.old) (length ops) 1 d) result }
-{
-    let (head, g) = m.placed(read_head(d, s))?;
-    if head.block == 0 {
-        return read_info(s, m, head, g, tables);
-    }
-    if skip.contains(&head.block) {
-        return m.placed(pass_over(m, head, g, events));
-    }
-    m.placed(open_block(f, m, head, g, events))
-}
-
-// Number 2: a local definition. It is read into the next local row; its room is tested behind it.
-fn define_local(
-    s: &[u8],
-    f: Frame,
-    m: Marks,
-    d: Cursor,
-    tables: &mut Abbreviations,
-) -> Result<Step, Reason>
-    requires whole { Whole (held tables.old) }
-    requires in_range { (m.shared ≤ max_shared) × (f.base ≤ m.local) × (m.local ≤ max_local) × Behind f d }
-    ensures kept { Kept m.shared m.local (held tables.old) (held tables.new) }
-    ensures does { (skip own ev ops : List ℕ) → Below m.shared own → Sits (length ev) (length ops) f m → DoesIn s.now skip f m own (held tables.old) (held tables.new) ev ev ops ops (numbered_of s.now f m own (held tables.old) (length ev) (length ops) 2 d) result }
-{
-    let row = LOCAL + m.local;
-    let (shape, g) = abbrev::define_abbrev(d, s, &mut tables.kinds, &mut tables.widths, row)?;
-    if MAX_LOCAL <= m.local {
-        return Err(Reason::NoAbbreviationRoom);
-    }
-    tables.shapes[row] = shape;
-    Ok(Step::Go(Marks {
-        at: g.at,
-        local: m.local + 1,
-        ..m
-    }))
-}
-
-// A record's event, where there is room for one.
-fn tell_record(
-    f: Frame,
-    m: Marks,
-    r: RecordRead,
-    at: u64,
-    events: &mut [u64],
-) -> Result<Step, Reason>
-    requires { m.events ≤ length events.old }
-    ensures { Tells f m r at events.old events.new result }
-{
-    let first = m.operands as u64;
-    let e = [
-        RECORD, f.number, r.code, first, r.count, r.kind, r.at, r.length,
-    ];
-    put_event(events, m.events, e)?;
-    Ok(Step::Go(Marks {
-        at,
-        events: m.events + EVENT_SIZE,
-        operands: r.fill,
-        ..m
-    }))
-}
-
-// Number 3: a record with no abbreviation.
-fn record_plain(
-    s: &[u8],
-    f: Frame,
-    m: Marks,
-    d: Cursor,
-    events: &mut [u64],
-    operands: &mut [u64],
-) -> Result<Step, Reason>
-    requires { Sits (length events.old) (length operands.old) f m × Behind f d }
-    ensures { (skip own : List ℕ) (t : Tables) → DoesIn s.now skip f m own t t events.old events.new operands.old operands.new (numbered_of s.now f m own t (length events.old) (length operands.old) 3 d) result }
-{
-    let (r, g) = read_unabbreviated(d, s, operands, m.operands)?;
-    tell_record(f, m, r, g.at, events)
-}
-
-// A number from 4 on: a record by its abbreviation.
-fn record_abbreviated(
-    s: &[u8],
-    f: Frame,
-    m: Marks,
-    own: &[u8],
-    n: u64,
-    d: Cursor,
-    tables: &Abbreviations,
-    events: &mut [u64],
-    operands: &mut [u64],
-) -> Result<Step, Reason>
-    requires whole { Whole (held tables.now) }
-    requires sits { Sits (length events.old) (length operands.old) f m × Behind f d × (4 ≤ n) × Below m.shared own.now }
-    ensures { (skip : List ℕ) → DoesIn s.now skip f m own.now (held tables.now) (held tables.now) events.old events.new operands.old operands.new (numbered_of s.now f m own.now (held tables.now) (length events.old) (length operands.old) n d) result }
-{
-    let row = abbrev::look_up(BlockNumber(f.number), AbbrevNumber(n), own, f.base, m.local)?;
-    let shape = tables.shapes[row];
-    let (r, g) = read_abbreviated(d, s, tables, ROW * row, shape, operands, m.operands)?;
-    tell_record(f, m, r, g.at, events)
-}
-
-// The next item of a block. `own` are the shared rows that were for the block when it was entered.
-fn try_next(
-    s: &[u8],
-    skip: &[u64],
-    f: Frame,
-    m: Marks,
-    own: &[u8],
-    tables: &mut Abbreviations,
-    ev: &mut [u64],
-    ops: &mut [u64],
-) -> Result<Step, Refused>
-    requires whole { Whole (held tables.old) }
-    requires sits { Sits (length ev.old) (length ops.old) f m × Below m.shared own.now }
-    ensures kept { Kept m.shared m.local (held tables.old) (held tables.new) }
-    ensures does { Does s.now skip.now f m own.now (held tables.old) (held tables.new) ev.old ev.new ops.old ops.new (opening_of s.now f m own.now (held tables.old) (length ev.old) (length ops.old)) result }
-{
-    let c = Cursor {
-        at: m.at,
-        end: f.end,
-    };
-    if c.is_at_end(s) {
-        return m.placed(end_of(f, m));
-    }
-    let (n, d) = m.placed(abbrev::read_number(c, s, f.width))?;
-    match n {
-        0 => m.placed(leave(s, f, m, d, ev)),
-        1 => enter_sub_block(s, skip, f, m, d, tables, ev),
-        2 => m.placed(define_local(s, f, m, d, tables)),
-        3 => m.placed(record_plain(s, f, m, d, ev, ops)),
-        _ => m.placed(record_abbreviated(s, f, m, own, n, d, tables, ev, ops)),
-    }
 }
 
 // A block's body from the marks on: it starts with the shared abbreviations that are for it now, and no local one of its own. The parent goes on
@@ -726,10 +753,15 @@ fn visit_block(
 {
     let mut rows = [0u8; MAX_SHARED];
     let many = abbrev::shared_rows(BlockNumber(f.number), &tables.owners, m.shared, &mut rows);
-    let own = &rows[0..many];
+    let block = Block {
+        stream: s,
+        skip,
+        own: &rows[0..many],
+        frame: f,
+    };
     let mut st = m;
     loop {
-        let step = try_next(s, skip, f, st, own, tables, ev, ops)?;
+        let step = block.try_next(st, tables, ev, ops)?;
         match step {
             Step::Go(t) => {
                 st = t;

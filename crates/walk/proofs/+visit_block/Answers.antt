@@ -12,8 +12,8 @@ use Rattle.abbrev.proofs.Held.{whole_kept}
 use Rattle.walk.proofs.Visits.{going_first, going_onward, onward_less, going_behind, behind_less, is_over, is_stopped, is_refused, kept_item, kept_nested, inner_sits, picked_part, picked_fits}
 use Rattle.walk.proofs.+visit_block.Goals as goal
 
-pub slice_bounds-own-end : goal.slice_bounds-own-end
-slice_bounds-own-end t c =
+pub slice_bounds-block-end : goal.slice_bounds-block-end
+slice_bounds-block-end t c =
     let r = c.shared_rows-many.ensures in
     picked_fits _ _ _ (replicate 32 0) r.many r.stored
 
@@ -21,11 +21,11 @@ pub loop-step-init : goal.loop-step-init
 loop-step-init t c =
     let p = c.requires in
     let r = c.shared_rows-many.ensures in
-    going_first _ _ _ _ _ _ _ _ p.whole p.sits.0 p.sits.1 (picked_part _ _ _ (replicate 32 0) refl r.many r.stored)
+    going_first _ _ _ _ _ p.whole p.sits.0 p.sits.1 (picked_part _ _ _ (replicate 32 0) refl r.many r.stored)
 
 pub try_next-requires : goal.try_next-requires
 try_next-requires t c =
-    let g = c.loop-step.invariant in record { whole = g.whole; sits = (g.sits, g.below) }
+    let g = c.loop-step.invariant in record { whole = g.whole; stands = (g.sits, g.below) }
 
 pub loop-step-smaller-in-Go : goal.loop-step-smaller-in-Go
 loop-step-smaller-in-Go t c =
