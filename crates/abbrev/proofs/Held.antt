@@ -10,14 +10,16 @@ use lib.ListN.{length, get_or, set, take, drop, length-append, length-map, lengt
 use lib.Seq.{get_or-set_same, get_or-take, take_all, take_at, drop-cons, set_at}
 use lib.Dec.{ltb, leb, eqb}
 use borrow.Author.Tests.{ltb-true, ltb-false, leb-true, lt-ltb, le-ltb, le-leb, eq-eqb, ne_eqb}
+use Rattle.std.specs.Prelude.{Ok, Err}
 use Rattle.terms.specs.Refusals.{No}
+use Rattle.terms.specs.declared.Reason.{Reason}
+use Rattle.terms.specs.declared.Reason.TheVariants.{NoSuchAbbrev}
 use Rattle.bits.specs.Reader.{got, refused, give, stop, when◌then◌else◌}
 use Rattle.bits.proofs.Laws.{and_true}
 use Rattle.bits.proofs.Steps.{arms}
 use Rattle.abbrev.specs.Abbrev.{Abbrev, look_up}
 use Rattle.abbrev.specs.BlockInfo.{shared, shared_for}
 use Rattle.abbrev.specs.Tables.{row_size, first_local, row_count, Tables, tables, abbrev_of, row_of, rows, shareds, block_rows, Outside, Kept, Whole, Below, positions, picked, row_at, of_row}
-use Rattle.abbrev.specs.declared.Row.TheVariants as R
 use Rattle.abbrev.proofs.Rows.{outside_refl, outside_set, abbrev_same}
 
 -- ---- what is kept
@@ -419,10 +421,10 @@ module _ (own : List ℕ) (base local n : ℕ) where
 
 -- what the code's answer says of it
 module _ (block number : ℕ) where
-  pub row_found : (x : Option ℕ) {row : ℕ} → R.At row ≡ of_row block number x → x ≡ some row
+  pub row_found : (x : Option ℕ) {row : ℕ} → Ok row ≡ of_row block number x → x ≡ some row
   row_found nothing h = absurd (let z : ◌≡◌ {A = ℕ} 0 1 = cc in omega arith)
   row_found (some row) h = cc
 
-  pub row_lost : (x : Option ℕ) {k n b : ℕ} → R.Refused k n b ≡ of_row block number x → (x ≡ nothing) × (k ≡ 8) × (n ≡ number) × (b ≡ block)
-  row_lost nothing h = (refl, cc, cc, cc)
+  pub row_lost : (x : Option ℕ) {r : Reason} → Err r ≡ of_row block number x → (x ≡ nothing) × (r ≡ NoSuchAbbrev number block)
+  row_lost nothing h = (refl, cc)
   row_lost (some row) h = absurd (let z : ◌≡◌ {A = ℕ} 0 1 = cc in omega arith)

@@ -3,95 +3,34 @@
 use mathlib.Core.Path.{◌≡◌, refl, sym, ap, ap₂, ◌∙◌}
 use mathlib.Core.Bool.{Bool, true, false}
 use mathlib.Core.List.{List, [], ◌∷◌, ◌++◌, append_assoc, append-nil}
-use mathlib.Core.Option.{Option, none as nothing, some}
+use mathlib.Core.Option.{Option, none as nothing}
 use Prim.Native.Nat.{ℕ, zero, suc, ◌+◌, ◌-◌, ◌*◌, ◌≤◌, ◌<◌}
 use native.Mathlib.Omega.{arith}
 use lib.ListN.{length, set, length-set}
 use lib.Seq.{get_or-set_same, get_or-set_other}
 use lib.Dec.{leb}
-use borrow.Author.Tests.{lt-ltb, le-ltb, le-leb, lt-leb, leb-true}
-use Rattle.terms.specs.Refusals.{No, no, Refusal, refusal, value_overflow, missing_set_bid, no_abbreviation_room}
+use borrow.Author.Tests.{lt-ltb, le-ltb, le-leb, leb-true}
+use Rattle.std.specs.Prelude.{Result, Ok, Err, MatchResult, IsErrAnd}
+use Rattle.terms.specs.Refusals.{No, no, Refusal, refusal, at_bit, no_abbreviation_room}
+use Rattle.terms.specs.declared.Reason.{Reason}
+use Rattle.terms.specs.declared.Refused.{Refused}
 use Rattle.bits.specs.declared.Cursor.{Cursor}
-use Rattle.bits.specs.Reader.{Reader, Answer, got, refused, onward, ◌>>=◌, give, stop, require, when◌then◌else◌, here, turns, at_place, placed}
-use Rattle.bits.specs.Bits.{limit, vbr}
+use Rattle.bits.specs.Reader.{Reader, Answer, got, refused, onward, ◌>>=◌, give, require, when◌then◌else◌, here, turns, at_place, placed}
+use Rattle.bits.specs.Bits.{limit}
 use Rattle.bits.specs.Told.{At, Off}
 use Rattle.bits.proofs.Steps.{on, then_off, off, ends, pass, fail, never, apart, passed, mapped, mapped_twice, mapped_same, gives_mapped, mapped_got, mapped_off, so, so_off}
 use Rattle.bits.proofs.Laws.{limit_in, and_true}
 use Rattle.bits.proofs.Vbr.{read_ahead}
 use Rattle.bits.proofs.Answers.{when_got, places}
 use Rattle.abbrev.specs.Abbrev.{Abbrev, define, number_of}
-use Rattle.abbrev.specs.BlockInfo.{Shared, shared, every, or_else, readable, chosen, info_definition, letters, InfoItem, info_end, info_adds, info_now, info_numbered, info_item, info_on, info}
-use Rattle.abbrev.specs.Tables.{row_size, local_rows, row_count, shared_slots, Tables, tables, abbrev_of, shareds, Outside, Kept, Whole, define_row, InfoDoes, info_all, shared_fit, info_block, Adds, InfoIs}
-use Rattle.abbrev.specs.declared.Info.{Info}
-use Rattle.abbrev.specs.declared.Info.TheVariants as B
-use Rattle.abbrev.specs.declared.InfoStep.{InfoStep}
-use Rattle.abbrev.specs.declared.InfoStep.TheVariants as S
+use Rattle.abbrev.specs.BlockInfo.{Shared, shared, every, chosen, info_definition, InfoItem as Item, info_end, info_adds, info_now, info_numbered, info_item, info_on, info}
+use Rattle.abbrev.specs.Tables.{row_size, local_rows, row_count, shared_slots, Tables, tables, abbrev_of, shareds, KeptBut, Kept, Whole, define_row, InfoDoes, info_all, shared_fit, info_block, Adds, InfoIs}
+use Rattle.abbrev.specs.declared.InfoItem.{InfoItem}
+use Rattle.abbrev.specs.declared.InfoItem.TheVariants as S
 use Rattle.abbrev.proofs.Answers.{info_items}
+use Rattle.abbrev.proofs.Records.{pass_so}
 use Rattle.abbrev.proofs.Rows.{outside_refl, outside_set, row_fits}
 use Rattle.abbrev.proofs.Held.{kept_refl, kept_then, kept_row, shareds_kept, shareds_more, row_set}
-
--- ---- a test that passes leaves the rest
-pub pass_so : {R B : Type 0} (r : R) {b : Bool} (f : Unit {0} → Reader R B) (s : List ℕ) (e p : ℕ) → b ≡ true → (require b r >>= f) s e p ≡ f tt s e p
-unfolding ◌>>=◌ onward require
-pass_so r f s e p i = rw i
-
--- ---- a number that has to be readable
-hidden : {A : Type 0} (r r' : No) → or_else {A = A} every r (refused r') ≡ refused r
-unfolding or_else every when◌then◌else◌
-hidden r (no n x y) = refl
-
-module _ {A : Type 0} (r : No) {m : Reader No A} {s : List ℕ} {e p : ℕ} where
-  pub readable_at : {a : A} {d : Cursor} → At m s e p a d → At (readable every r m) s e p a d
-  unfolding readable or_else
-  readable_at x = record { gives = rw x.gives; ends = x.ends }
-
-  pub readable_off : {r' : No} → Off m s e p r' → Off (readable every r m) s e p r
-  unfolding readable
-  readable_off {r'} o = record { why = ap (or_else every r) o.why ∙ hidden r r' }
-
--- ---- the loop that reads name letters
-pub record Spelling (s : List ℕ) (count : ℕ) (c₀ c : Cursor) (left : ℕ) : Type 0 where
-  pub rest : letters count s c₀.end c₀.at ≡ letters left s c.end c.at
-  pub same_end : c.end ≡ c₀.end
-
-pub spelling_start : (s : List ℕ) (count : ℕ) (c : Cursor) → Spelling s count c c count
-spelling_start s count c = record { rest = refl; same_end = refl }
-
-letters_none : (n : ℕ) (s : List ℕ) (e p : ℕ) → n ≡ 0 → letters n s e p ≡ got tt p
-unfolding letters give
-letters_none n s e p h = ap (λ k. letters k s e p) h
-
--- one letter, and those behind it
-letters_turn : (n : ℕ) (s : List ℕ) (e p : ℕ) → 0 < n → letters n s e p ≡ (vbr 6 >>= (λ v. require (leb v 255) value_overflow >>= (λ u. letters (n - 1)))) s e p
-unfolding letters
-letters_turn zero s e p h = absurd (omega arith)
-letters_turn (suc n) s e p h =
-    let z : n ≡ suc n - 1 = omega arith in ap (λ k. (vbr 6 >>= (λ v. require (leb v 255) value_overflow >>= (λ u. letters k))) s e p) z
-
-module _ {s : List ℕ} {count : ℕ} {c₀ c : Cursor} {left : ℕ} (g : Spelling s count c₀ c left) where
-  pub spelling_end : left ≡ 0 → At (letters count) s c₀.end c₀.at tt c
-  spelling_end h = record { gives = g.rest ∙ letters_none left s c.end c.at h; ends = g.same_end }
-
-  spelling_turn : {r : No} → 0 < left
-      → Off (vbr 6 >>= (λ v. require (leb v 255) value_overflow >>= (λ u. letters (left - 1)))) s c.end c.at r
-      → Off (letters count) s c₀.end c₀.at r
-  spelling_turn h o = record { why = g.rest ∙ letters_turn left s c.end c.at h ∙ o.why }
-
-  pub spelling_refused : {r : No} → 0 < left → Off (vbr 6) s c.end c.at r → Off (letters count) s c₀.end c₀.at r
-  spelling_refused h o = spelling_turn h (off _ o)
-
-  module _ {v : ℕ} {d : Cursor} (h : 0 < left) (x : At (vbr 6) s c.end c.at v d) where
-    pub spelling_wide : 255 < v → Off (letters count) s c₀.end c₀.at value_overflow
-    spelling_wide i = spelling_turn h (then_off _ x (fail _ (lt-leb v 255 i)))
-
-    pub spelling_more : v ≤ 255 → Spelling s count c₀ d (left - 1)
-    spelling_more i =
-        record {
-          rest =
-              g.rest ∙ letters_turn left s c.end c.at h ∙ so (vbr 6) _ s c.end c.at x.gives
-              ∙ pass_so value_overflow (λ u. letters (left - 1)) s c.end d.at (le-leb v 255 i) ∙ ap (λ e. letters (left - 1) s e d.at) (sym x.ends);
-          same_end = x.ends ∙ g.same_end;
-        }
 
 -- ---- enough turns
 -- two rests of a `do` block that agree on what the first part got
@@ -114,14 +53,14 @@ unplaced {A} from m s e p {a} {q} z = go (m s e p) z
     go (refused (no n x y)) i = absurd (never i)
 
 module _ (s : List ℕ) (e w : ℕ) where
-  info_starts : (now : Option ℕ) (have p q : ℕ) (x : InfoItem) → info_item every w now have s e p ≡ got x q → p < limit s e
+  info_starts : (now : Option ℕ) (have p q : ℕ) (x : Item) → info_item every w now have s e p ≡ got x q → p < limit s e
   unfolding info_item number_of
   info_starts now have p q x z =
       let c = apart (number_of w) _ s e p z in
       let a = read_ahead s e p w c.0 c.1 (passed _ _ s e p c.2).1 in
       omega (arith, a.past, a.inside)
 
-  same_info : (x : InfoItem) (now : Option ℕ) (have q : ℕ) (f g : Option ℕ → ℕ → Reader Refusal (List Shared))
+  same_info : (x : Item) (now : Option ℕ) (have q : ℕ) (f g : Option ℕ → ℕ → Reader Refusal (List Shared))
       → ((b : Option ℕ) (n : ℕ) → f b n s e q ≡ g b n s e q) → info_on x now have f s e q ≡ info_on x now have g s e q
   unfolding info_on ◌>>=◌
   same_info info_end now have q f g h = refl
@@ -168,34 +107,54 @@ module _ (row kinds widths : ℕ) (i : row < row_count) (j : row_size * row + ro
   pub undefined_in : {r : No} → Off (define_row row kinds widths) s e p r → Off define s e p r
   undefined_in o = record { why = sym (define_in row kinds widths s e p i j k) ∙ o.why }
 
-module _ {s : List ℕ} {e p : ℕ} where
+-- and so into tables that have all shared rows
+module _ (have : ℕ) {kinds widths : ℕ} (p : (have ≤ 32) × (shared_slots ≤ kinds) × (shared_slots ≤ widths)) {s : List ℕ} {c : Cursor} where
+  pub defined_shared : {a : Abbrev} {d : Cursor} → At (define_row have kinds widths) s c.end c.at a d → At define s c.end c.at a d
+  defined_shared x = defined_in have kinds widths (omega (arith, p.0)) (omega (arith, p.0, p.1)) (omega (arith, p.0, p.2)) x
+
+  pub undefined_shared : {r : No} → Off (define_row have kinds widths) s c.end c.at r → Off define s c.end c.at r
+  undefined_shared o = undefined_in have kinds widths (omega (arith, p.0)) (omega (arith, p.0, p.1)) (omega (arith, p.0, p.2)) o
+
+module _ {s : List ℕ} {c : Cursor} (now : Option ℕ) (have : ℕ) where
   -- no block is chosen
-  pub definition_unchosen : (have : ℕ) → Off (info_numbered every nothing have 2) s e p missing_set_bid
-  unfolding info_numbered when◌then◌else◌ info_definition chosen stop
-  definition_unchosen have = off _ (off _ record { why = refl })
+  pub definition_unchosen : {r : No} → Off (chosen now) s c.end c.at r → Off (info_numbered every now have 2) s c.end c.at r
+  unfolding info_numbered when◌then◌else◌ info_definition
+  definition_unchosen o = off _ (off _ o)
 
-  module _ (b have : ℕ) where
-    pub definition_off : {r : No} → Off define s e p r → Off (info_numbered every (some b) have 2) s e p r
-    unfolding info_numbered when◌then◌else◌ info_definition chosen
-    definition_off o = off _ (then_off _ (ends {d = record { at = p; end = e }}) (off _ o))
+  module _ {b : ℕ} (x : At (chosen now) s c.end c.at b c) where
+    pub definition_off : {r : No} → Off define s c.end c.at r → Off (info_numbered every now have 2) s c.end c.at r
+    unfolding info_numbered when◌then◌else◌ info_definition
+    definition_off o = off _ (then_off _ x (off _ o))
 
-    module _ {a : Abbrev} {d : Cursor} (x : At define s e p a d) where
-      pub definition_full : 32 ≤ have → Off (info_numbered every (some b) have 2) s e p no_abbreviation_room
-      unfolding info_numbered when◌then◌else◌ info_definition chosen
-      definition_full l = off _ (then_off _ (ends {d = record { at = p; end = e }}) (then_off _ x (fail _ (le-ltb have 32 l))))
+    module _ {a : Abbrev} {d : Cursor} (y : At define s c.end c.at a d) where
+      pub definition_full : 32 ≤ have → Off (info_numbered every now have 2) s c.end c.at no_abbreviation_room
+      unfolding info_numbered when◌then◌else◌ info_definition
+      definition_full l = off _ (then_off _ x (then_off _ y (fail _ (le-ltb have 32 l))))
 
-      pub definition_adds : have < 32 → At (info_numbered every (some b) have 2) s e p (info_adds (shared b a)) d
-      unfolding info_numbered when◌then◌else◌ info_definition chosen
-      definition_adds l = on _ (on _ (ends {d = record { at = p; end = e }}) (on _ x (pass _ _ (lt-ltb have 32 l) ends))) ends
+      pub definition_adds : have < 32 → At (info_numbered every now have 2) s c.end c.at (info_adds (shared b a)) d
+      unfolding info_numbered when◌then◌else◌ info_definition
+      definition_adds l = on _ (on _ x (on _ y (pass _ _ (lt-ltb have 32 l) ends))) ends
+
+-- what `map_err` says of the answer in front of it: Q is what the closure promises, and P what it is taken for
+module _ {A E F : Type 0} (Q : E → F → Type 0) where
+  pub ok_before : (r : Result A E) {r' : Result A F} {a : A} → MatchResult r (λ x. r' ≡ Ok x) (λ x. IsErrAnd r' (Q x)) → r' ≡ Ok a → r ≡ Ok a
+  ok_before (Ok x) {r'} {a} h i = let j : x ≡ a = cc in ap Ok j
+  ok_before (Err x) h i = absurd (rw i at h)
+
+  pub err_before : (P : E → F → Type 0) → ((x : E) (y : F) → Q x y → P x y) → (r : Result A E) {r' : Result A F} {y : F}
+      → MatchResult r (λ x. r' ≡ Ok x) (λ x. IsErrAnd r' (Q x)) → r' ≡ Err y → (x : E) × (r ≡ Err x) × P x y
+  err_before P f (Ok x) h i = cc
+  err_before P f (Err x) {r'} {y} h i = (x, refl, f x y (rw i at h))
 
 -- an item is what its number says
-pub item_does : {s : List ℕ} {c d : Cursor} (w : ℕ) {n : ℕ} (now : Option ℕ) (have : ℕ) (kinds widths : List ℕ) (r : InfoStep) → At (number_of w) s c.end c.at n d
+pub item_does : {s : List ℕ} {c d : Cursor} (w : ℕ) {n : ℕ} (now : Option ℕ) (have : ℕ) (kinds widths : List ℕ) (r : Result (InfoItem × Cursor) Reason)
+    → At (number_of w) s c.end c.at n d
     → InfoDoes d s (info_numbered every now have n) kinds widths have r → InfoDoes c s (info_item every w now have) kinds widths have r
 unfolding info_item
-item_does w now have kinds widths (S.End f) x y = on _ x y
-item_does w now have kinds widths (S.Adds b shape f) x y = (on _ x y.0, y.1)
-item_does w now have kinds widths (S.Now b f) x y = on _ x y
-item_does w now have kinds widths (S.Refused m u v) x y = then_off _ x y
+item_does w now have kinds widths (Ok (S.End, f)) x y = on _ x y
+item_does w now have kinds widths (Ok (S.Adds b shape, f)) x y = (on _ x y.0, y.1)
+item_does w now have kinds widths (Ok (S.Now b, f)) x y = on _ x y
+item_does w now have kinds widths (Err r) x y = then_off _ x y
 
 -- ---- the loop that reads the items: the answer from the start is what was added, in front of the answer from here
 pub record Going (s : List ℕ) (w have₀ : ℕ) (t₀ : Tables) (c₀ c : Cursor) (t : Tables) (now : Option ℕ) (have : ℕ) : Type 0 where
@@ -224,21 +183,19 @@ placed_got : {A : Type 0} (from : ℕ) (m : Reader No A) (s : List ℕ) (e p : �
 unfolding placed at_place
 placed_got from m s e p i = rw i
 
-placed_off : {A : Type 0} (from : ℕ) (m : Reader No A) (s : List ℕ) (e p : ℕ) {n x y : ℕ} → m s e p ≡ refused (no n x y)
-    → placed from m s e p ≡ refused (refusal n from x y)
+placed_off : {A : Type 0} (from : ℕ) (m : Reader No A) (s : List ℕ) (e p : ℕ) (r : No) → m s e p ≡ refused r → placed from m s e p ≡ refused (at_bit from r)
 unfolding placed at_place
-placed_off from m s e p i = rw i
+placed_off from m s e p (no n x y) i = rw i
 
 module _ {s : List ℕ} {w have₀ : ℕ} {t₀ : Tables} {c₀ c : Cursor} {t : Tables} {now : Option ℕ} {have : ℕ} (g : Going s w have₀ t₀ c₀ c t now have) where
   -- the item is refused
-  pub going_refused : {n x y : ℕ} → Off (info_item every w now have) s c.end c.at (no n x y)
-      → info_all w have₀ s c₀.end c₀.at ≡ refused (refusal n c.at x y)
-  going_refused o =
+  pub going_refused : {r : No} → Off (info_item every w now have) s c.end c.at r → info_all w have₀ s c₀.end c₀.at ≡ refused (at_bit c.at r)
+  going_refused {r} o =
       g.rest
       ∙ mapped_off (λ xs. g.so_far ++ xs) (info_turn s c.end w now have c.at
-      ∙ so_off (placed c.at (info_item every w now have)) _ s c.end c.at (placed_off c.at _ s c.end c.at o.why))
+      ∙ so_off (placed c.at (info_item every w now have)) _ s c.end c.at (placed_off c.at _ s c.end c.at r o.why))
 
-  module _ {x : InfoItem} {d : Cursor} (o : At (info_item every w now have) s c.end c.at x d) where
+  module _ {x : Item} {d : Cursor} (o : At (info_item every w now have) s c.end c.at x d) where
     -- it goes forward, and what is left is less
     pub going_less : limit s d.end - d.at < limit s c.end - c.at
     going_less =
@@ -254,9 +211,9 @@ module _ {s : List ℕ} {w have₀ : ℕ} {t₀ : Tables} {c₀ c : Cursor} {t :
         ∙ so (placed c.at (info_item every w now have)) _ s c.end c.at (placed_got c.at _ s c.end c.at o.gives))
 
   -- the tables behind an item: the row behind those in use may have been written
-  module _ {kinds' widths' : List ℕ} (k : Outside (row_size * have) (row_size * have + row_size) t.kinds kinds') (l : Outside (row_size * have) (row_size * have + row_size) t.widths widths') where
+  module _ {kinds' widths' : List ℕ} (k : KeptBut (row_size * have) row_size t.kinds kinds' t.widths widths') where
     kept_here : (have' : ℕ) → have' ≤ have → Kept have' local_rows t (tables kinds' widths' t.shapes t.owners)
-    kept_here have' h = kept_row (λ i u v e. v (omega arith) (omega (arith, g.most))) k l (outside_refl _ _ _) refl (λ i u. refl)
+    kept_here have' h = kept_row (λ i u v e. v (omega arith) (omega (arith, g.most))) k.kinds k.widths (outside_refl _ _ _) refl (λ i u. refl)
 
     pub going_kept : Kept have₀ local_rows t₀ (tables kinds' widths' t.shapes t.owners)
     going_kept = kept_then g.kept (kept_here have₀ g.more)
@@ -325,7 +282,7 @@ module _ {s : List ℕ} {w have₀ : ℕ} {t₀ : Tables} {c₀ c : Cursor} {t :
 
         kept_to : (have' : ℕ) → have' ≤ have → Kept have' local_rows t t'
         kept_to have' m =
-            kept_row (λ i u v e. v (omega arith) (omega arith)) k l (outside_set _ _ _ _ _ (omega arith) (omega arith)) (length-set t.owners have b)
+            kept_row (λ i u v e. v (omega arith) (omega arith)) k.kinds k.widths (outside_set _ _ _ _ _ (omega arith) (omega arith)) (length-set t.owners have b)
             (λ i u. get_or-set_other t.owners have i b 0 (λ e. omega arith))
 
 -- ---- a BLOCKINFO's body: the items, where the tables have all shared rows
@@ -364,9 +321,9 @@ module _ (have : ℕ) (t : Tables) where
     info_whole s e p h z =
         info_fit s e p (fits h (omega (arith, z.kinds)) (omega (arith, z.widths)) (omega (arith, z.shapes)) (omega (arith, z.owners)))
 
-    pub info_is : (c : Cursor) (s : List ℕ) (t' : Tables) (r : Info) → have ≤ 32 → shared_slots ≤ length t.kinds → shared_slots ≤ length t.widths
+    pub info_is : (c : Cursor) (s : List ℕ) (t' : Tables) (r : Result ℕ Refused) → have ≤ 32 → shared_slots ≤ length t.kinds → shared_slots ≤ length t.widths
         → 32 ≤ length t.shapes → 32 ≤ length t.owners → InfoIs c s (info_all w have) have t t' r → InfoIs c s (info_block w have t) have t t' r
-    info_is c s t' (B.Shared have') i j k l m x =
+    info_is c s t' (Ok have') i j k l m x =
         record {
           added = x.added;
           to = x.to;
@@ -375,4 +332,4 @@ module _ (have : ℕ) (t : Tables) where
           more = x.more;
           most = x.most;
         }
-    info_is c s t' (B.Refused n place y z) i j k l m x = info_fit s c.end c.at (fits i j k l m) ∙ x
+    info_is c s t' (Err r) i j k l m x = info_fit s c.end c.at (fits i j k l m) ∙ x

@@ -9,17 +9,17 @@ use lib.ListN.{length, set, length-set}
 use lib.Seq.{get_or-set_same, get_or-set_other}
 use lib.Dec.{ltb, leb}
 use borrow.Author.Tests.{le-leb, lt-ltb}
+use Rattle.std.specs.Prelude.{Result, Ok, Err}
 use Rattle.terms.specs.Refusals.{No}
+use Rattle.terms.specs.declared.Reason.{Reason}
 use Rattle.bits.specs.Reader.{Answer, got, refused, ◌>>=◌, give, when◌then◌else◌}
 use Rattle.bits.specs.Bits.{vbr}
 use Rattle.bits.specs.declared.Cursor.{Cursor}
 use Rattle.bits.specs.Told.{At, Off}
 use Rattle.bits.proofs.Steps.{on, then_off, pass, pass_off, mapped, mapped_twice, mapped_same, gives_mapped, mapped_got, mapped_off, so, so_off}
 use Rattle.bitcode.specs.declared.ScalarOperand.{ScalarOperand}
-use Rattle.abbrev.specs.declared.Defined.{Defined}
-use Rattle.abbrev.specs.declared.Defined.TheVariants as F
 use Rattle.abbrev.specs.Abbrev.{Abbrev, abbreviation, Payload, none, blob, array, Operand, scalar, is_array, is_blob, operand, element, also, rest_of, operands, define}
-use Rattle.abbrev.specs.Tables.{row_size, first_local, row_count, blob_shape, scalar_of, slot, slots, load_of, abbrev_of, Outside, Elements, Defines, define_row}
+use Rattle.abbrev.specs.Tables.{row_size, first_local, row_count, blob_shape, scalar_of, slot, slots, load_of, abbrev_of, Outside, KeptBut, Elements, Defines, define_row}
 
 -- ---- what a table keeps
 pub outside_refl : (from to : ℕ) (xs : List ℕ) → Outside from to xs xs
@@ -35,6 +35,22 @@ module _ {from to : ℕ} where
 pub outside_set : (from to : ℕ) (xs : List ℕ) (i v : ℕ) → from ≤ i → i < to → Outside from to xs (set xs i v)
 outside_set from to xs i v l m =
     record { many = length-set xs i v; same = λ j h. get_or-set_other xs i j v 0 (λ e. h (omega arith) (omega arith)) }
+
+-- and of the slots
+module _ {from n : ℕ} where
+  pub but_none : {kinds widths : List ℕ} → KeptBut from n kinds kinds widths widths
+  but_none = record { kinds = outside_refl _ _ _; widths = outside_refl _ _ _ }
+
+  pub but_then : {kinds kinds' kinds'' widths widths' widths'' : List ℕ}
+      → KeptBut from n kinds kinds' widths widths' → KeptBut from n kinds' kinds'' widths' widths'' → KeptBut from n kinds kinds'' widths widths''
+  but_then a b = record { kinds = outside_then a.kinds b.kinds; widths = outside_then a.widths b.widths }
+
+  pub but_wider : {from' n' : ℕ} {kinds kinds' widths widths' : List ℕ}
+      → from' ≤ from → from + n ≤ from' + n' → KeptBut from n kinds kinds' widths widths' → KeptBut from' n' kinds kinds' widths widths'
+  but_wider l m a = record { kinds = outside_wider l m a.kinds; widths = outside_wider l m a.widths }
+
+  pub but_set : (kinds widths : List ℕ) (i k v : ℕ) → from ≤ i → i < from + n → KeptBut from n kinds (set kinds i k) widths (set widths i v)
+  but_set kinds widths i k v l m = record { kinds = outside_set _ _ kinds i k l m; widths = outside_set _ _ widths i v l m }
 
 -- none of the n places from i on lies from `from` up to `to`
 abbrev pub Apart : ℕ → ℕ → ℕ → ℕ → Type 0
@@ -163,91 +179,103 @@ module _ {s : List ℕ} {e : ℕ} {whole : Answer No Abbrev} {kinds widths : Lis
       grown : (a : Abbrev) → in_front (slots kinds widths base i) (also (scalar_of k v) a) ≡ in_front (slots (set kinds (base + i) k) (set widths (base + i) v) base (i + 1)) a
       grown a = both a ∙ ap (λ ys. in_front ys a) (sym (slots_set kinds widths base i k v hk hw))
 
--- where the loop of `read_operands` stands: i scalars are in the row, `left` operands are to be read
-pub record Turn (s : List ℕ) (c₀ : Cursor) (total base : ℕ) (kinds₀ widths₀ kinds widths : List ℕ) (c : Cursor) (i left : ℕ) : Type 0 where
+-- where the loop of `read_operands` stands: i scalars are in the row, and the others of `total` operands are to be read
+pub record Turn (s : List ℕ) (c₀ : Cursor) (total base : ℕ) (kinds₀ widths₀ kinds widths : List ℕ) (c : Cursor) (i : ℕ) : Type 0 where
+  pub left : ℕ
   pub going : Going s c₀.end (operands total s c₀.end c₀.at) kinds widths base i left c.at
   pub same_end : c.end ≡ c₀.end
   pub sum : i + left ≡ total
   pub few : total ≤ 32
-  pub kept_kinds : Outside base (base + row_size) kinds₀ kinds
-  pub kept_widths : Outside base (base + row_size) widths₀ widths
+  pub kept : KeptBut base row_size kinds₀ kinds widths₀ widths
   pub long_kinds : base + row_size ≤ length kinds
   pub long_widths : base + row_size ≤ length widths
 
 pub turn_start : (s : List ℕ) (c : Cursor) (total base : ℕ) (kinds widths : List ℕ) → base + row_size ≤ length kinds → base + row_size ≤ length widths → total ≤ 32
-    → Turn s c total base kinds widths kinds widths c 0 total
+    → Turn s c total base kinds widths kinds widths c 0
 turn_start s c total base kinds widths h l m = record {
+  left = total;
   going = going_start s c.end kinds widths base total c.at;
   same_end = refl;
   sum = omega arith;
   few = m;
-  kept_kinds = outside_refl base (base + row_size) kinds;
-  kept_widths = outside_refl base (base + row_size) widths;
+  kept = but_none;
   long_kinds = h;
   long_widths = l;
 }
 
-module _ {s : List ℕ} {c₀ : Cursor} {total base : ℕ} {kinds₀ widths₀ kinds widths : List ℕ} {c : Cursor} {i left : ℕ}
-    (t : Turn s c₀ total base kinds₀ widths₀ kinds widths c i left) where
-  pub turn_none : left ≡ 0 → At (operands total) s c₀.end c₀.at (abbrev_of kinds widths base i) c
+module _ {s : List ℕ} {c₀ : Cursor} {total base : ℕ} {kinds₀ widths₀ kinds widths : List ℕ} {c : Cursor} {i : ℕ}
+    (t : Turn s c₀ total base kinds₀ widths₀ kinds widths c i) where
+  pub turn_none : total ≤ i → At (operands total) s c₀.end c₀.at (abbrev_of kinds widths base total) c
   unfolding load_of when◌then◌else◌
-  turn_none h = record {
-    gives = going_none t.going h ∙ ap (λ a. got a c.at) (sym (abbrev_is kinds widths base i 0 (omega (arith, t.sum, t.few)) (omega arith)));
-    ends = t.same_end;
-  }
+  turn_none h =
+      let z : t.left ≡ 0 = omega (arith, t.sum) in
+      let y : i ≡ total = omega (arith, t.sum) in
+      record {
+        gives = going_none t.going z ∙ ap (λ a. got a c.at) (sym (abbrev_is kinds widths base i 0 (omega (arith, t.sum, t.few)) (omega (arith, y))));
+        ends = t.same_end;
+      }
 
-  pub turn_off : {r : No} → 0 < left → Off (operand (left - 1)) s c.end c.at r → Off (operands total) s c₀.end c₀.at r
-  turn_off h o = let o₂ = rw t.same_end at o in record { why = going_off t.going h o₂.why }
+  -- the operand that is read next is the one behind which so many are left
+  next : i < total → (0 < t.left) × (total - 1 - i ≡ t.left - 1)
+  next h = (omega (arith, t.sum), omega (arith, t.sum))
 
-  pub turn_blob : {d : Cursor} → 0 < left → At (operand (left - 1)) s c.end c.at is_blob d
+  pub turn_off : {r : No} → i < total → Off (operand (total - 1 - i)) s c.end c.at r → Off (operands total) s c₀.end c₀.at r
+  turn_off h o =
+      let n = next h in
+      let o₂ = rw (t.same_end, n.1) at o in
+      record { why = going_off t.going n.0 o₂.why }
+
+  pub turn_blob : {d : Cursor} → i < total → At (operand (total - 1 - i)) s c.end c.at is_blob d
       → At (operands total) s c₀.end c₀.at (abbrev_of kinds widths base (i + blob_shape)) d
   unfolding load_of when◌then◌else◌
   turn_blob {d} h o =
-      let o₂ = rw t.same_end at o in
+      let n = next h in
+      let o₂ = rw (t.same_end, n.1) at o in
       record {
-        gives = going_blob t.going h o₂.gives ∙ ap (λ a. got a d.at) (sym (abbrev_is kinds widths base i 2 (omega (arith, t.sum, t.few)) (omega arith)));
+        gives = going_blob t.going n.0 o₂.gives ∙ ap (λ a. got a d.at) (sym (abbrev_is kinds widths base i 2 (omega (arith, t.sum, t.few)) (omega arith)));
         ends = o₂.ends;
       }
 
-  pub turn_array : {d : Cursor} {kinds' widths' : List ℕ} (r : Defined) → 0 < left → At (operand (left - 1)) s c.end c.at is_array d
-      → Outside (base + i) (base + i + 1) kinds kinds' → Outside (base + i) (base + i + 1) widths widths' → Elements d s kinds' widths' base i r
+  pub turn_array : {d : Cursor} {kinds' widths' : List ℕ} (r : Result (ℕ × Cursor) Reason) → i < total
+      → At (operand (total - 1 - i)) s c.end c.at is_array d → KeptBut (base + i) 1 kinds kinds' widths widths' → Elements d s kinds' widths' base i r
       → Defines c₀ s (operands total) kinds' widths' base r
   unfolding load_of when◌then◌else◌
-  turn_array {d} {kinds'} {widths'} (F.Shape shape g) h o k w z =
-      let o₂ = rw t.same_end at o in
+  turn_array {d} {kinds'} {widths'} (Ok (shape, g)) h o k z =
+      let n = next h in
+      let o₂ = rw (t.same_end, n.1) at o in
       let z₂ = rw o₂.ends at z.0 in
-      let y = going_array t.going h o₂.gives z₂.gives in
+      let y = going_array t.going n.0 o₂.gives z₂.gives in
       record {
         gives =
-            y ∙ ap (λ xs. got (abbreviation xs (array (slot kinds' widths' (base + i)))) g.at) (sym (slots_same k w base i (λ j a b u v. omega arith)))
+            y ∙ ap (λ xs. got (abbreviation xs (array (slot kinds' widths' (base + i)))) g.at) (sym (slots_same k.kinds k.widths base i (λ j a b u v. omega arith)))
             ∙ ap (λ a. got a g.at) (sym (abbrev_is kinds' widths' base i 1 (omega (arith, t.sum, t.few)) z.1));
         ends = z₂.ends;
       }
-  turn_array (F.Refused n x y) h o k w z =
-      let o₂ = rw t.same_end at o in
+  turn_array (Err r) h o k z =
+      let n = next h in
+      let o₂ = rw (t.same_end, n.1) at o in
       let z₂ = rw o₂.ends at z in
-      record { why = going_array_off t.going h o₂.gives z₂.why }
+      record { why = going_array_off t.going n.0 o₂.gives z₂.why }
 
   -- the slot of the next operand lies in the row
-  pub turn_inside : 0 < left → (base + i < length kinds) × (base + i < length widths) × (i ≤ 32)
-  turn_inside h = (omega (arith, t.sum, t.few, t.long_kinds), omega (arith, t.sum, t.few, t.long_widths), omega (arith, t.sum, t.few))
+  pub turn_inside : i < total → (base + i < length kinds) × (base + i < length widths) × (i ≤ 32)
+  turn_inside h = (omega (arith, t.few, t.long_kinds), omega (arith, t.few, t.long_widths), omega (arith, t.few))
 
-  pub turn_more : {d : Cursor} (k v : ℕ) → 0 < left → At (operand (left - 1)) s c.end c.at (scalar (scalar_of k v)) d
-      → Turn s c₀ total base kinds₀ widths₀ (set kinds (base + i) k) (set widths (base + i) v) d (i + 1) (left - 1)
-  turn_more k v h o =
-      let o₂ = rw t.same_end at o in
-      let n = turn_inside h in
-      let l = length-set kinds (base + i) k in
-      let m = length-set widths (base + i) v in
+  pub turn_more : {d : Cursor} {x : ScalarOperand} (k v : ℕ) → i < total → scalar_of k v ≡ x → At (operand (total - 1 - i)) s c.end c.at (scalar x) d
+      → Turn s c₀ total base kinds₀ widths₀ (set kinds (base + i) k) (set widths (base + i) v) d (i + 1)
+  turn_more k v h e o =
+      let n = next h in
+      let o₂ = rw (t.same_end, n.1, ← e) at o in
+      let m = turn_inside h in
       record {
-        going = going_more t.going k v h o₂.gives n.0 n.1;
+        left = t.left - 1;
+        going = going_more t.going k v n.0 o₂.gives m.0 m.1;
         same_end = o₂.ends;
-        sum = omega (arith, t.sum);
+        sum = omega (arith, t.sum, n.0);
         few = t.few;
-        kept_kinds = outside_then t.kept_kinds (outside_set base (base + row_size) kinds (base + i) k (omega arith) (omega (arith, n.2)));
-        kept_widths = outside_then t.kept_widths (outside_set base (base + row_size) widths (base + i) v (omega arith) (omega (arith, n.2)));
-        long_kinds = omega (arith, l, t.long_kinds);
-        long_widths = omega (arith, m, t.long_widths);
+        kept = but_then t.kept (but_set kinds widths (base + i) k v (omega arith) (omega (arith, m.2)));
+        long_kinds = omega (arith, length-set kinds (base + i) k, t.long_kinds);
+        long_widths = omega (arith, length-set widths (base + i) v, t.long_widths);
       }
 
 -- ---- a definition, behind the tests of its row and its count
@@ -255,9 +283,9 @@ pub row_fits : (row kinds widths : ℕ) → row < row_count → row_size * row +
     → (ltb row row_count && leb (row_size * row + row_size) kinds && leb (row_size * row + row_size) widths) ≡ true
 row_fits row kinds widths h l m = rw (lt-ltb row row_count h, le-leb (row_size * row + row_size) kinds l, le-leb (row_size * row + row_size) widths m)
 
-pub define_more : {s : List ℕ} {c d : Cursor} {n : ℕ} (row many_kinds many_widths : ℕ) (kinds widths : List ℕ) (base : ℕ) (r : Defined)
+pub define_more : {s : List ℕ} {c d : Cursor} {n : ℕ} (row many_kinds many_widths : ℕ) (kinds widths : List ℕ) (base : ℕ) (r : Result (ℕ × Cursor) Reason)
     → (ltb row row_count && leb (row_size * row + row_size) many_kinds && leb (row_size * row + row_size) many_widths) ≡ true → At (vbr 5) s c.end c.at n d → n ≤ 32
     → Defines d s (operands n) kinds widths base r → Defines c s (define_row row many_kinds many_widths) kinds widths base r
 unfolding define_row define
-define_more {n = n} row many_kinds many_widths kinds widths base (F.Shape shape g) i x h y = pass _ _ i (on _ x (pass _ _ (le-leb n 32 h) y))
-define_more {n = n} row many_kinds many_widths kinds widths base (F.Refused m u v) i x h y = pass_off _ _ i (then_off _ x (pass_off _ _ (le-leb n 32 h) y))
+define_more {n = n} row many_kinds many_widths kinds widths base (Ok (shape, g)) i x h y = pass _ _ i (on _ x (pass _ _ (le-leb n 32 h) y))
+define_more {n = n} row many_kinds many_widths kinds widths base (Err r) i x h y = pass_off _ _ i (then_off _ x (pass_off _ _ (le-leb n 32 h) y))

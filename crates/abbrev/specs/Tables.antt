@@ -1,9 +1,12 @@
 -- What the answers of the code and the lent tables stand for. The relation between the tables and the definition's lists is stated here and
 -- nowhere else; callers use its laws (proofs/Rows.antt). Assumes nothing.
-use Rattle.std.specs.Prelude.{◌≡◌, Bool, ◌&&◌, List, [], ◌∷◌, ◌++◌, map, ℕ, zero, suc, ◌+◌, ◌-◌, ◌*◌, ◌/◌, ◌%◌, ◌≤◌, ◌<◌, min, length, get_or, take, replicate, ltb, leb, eqb}
+use Rattle.std.specs.Prelude.{◌≡◌, Bool, ◌&&◌, List, [], ◌∷◌, ◌++◌, map, ℕ, zero, suc, ◌+◌, ◌-◌, ◌*◌, ◌/◌, ◌%◌, ◌≤◌, ◌<◌, min, length, get_or, take, replicate, ltb, leb, eqb, Option as RustOption, Some, None, Result, Ok, Err}
 use Rattle.std.proofs.Math.Option.{Option, none as nothing, some}
 use Rattle.terms.specs.Limits.{max_shared, max_local}
-use Rattle.terms.specs.Refusals.{No, no, Refusal, refusal, at_bit, no_abbreviation_room}
+use Rattle.terms.specs.Refusals.{No, no_of, Refusal, refusal_of, at_bit, no_abbreviation_room}
+use Rattle.terms.specs.declared.Reason.{Reason}
+use Rattle.terms.specs.declared.Reason.TheVariants.{NoSuchAbbrev}
+use Rattle.terms.specs.declared.Refused.{Refused}
 use Rattle.bits.specs.Reader.{Reader, got, refused, ◌>>=◌, ◌>>◌, require, when◌then◌else◌, here, turns}
 use Rattle.bits.specs.Told.{Told, told, refuses, At, Off}
 use Rattle.bits.specs.declared.Cursor.{Cursor}
@@ -12,26 +15,13 @@ use Rattle.bitcode.specs.declared.ScalarOperand.TheVariants.{Literal, Fixed, Vbr
 use Rattle.abbrev.specs.Abbrev as D
 use Rattle.abbrev.specs.Abbrev.{Abbrev, abbreviation, Payload, none, blob, array}
 use Rattle.abbrev.specs.BlockInfo as I
-use Rattle.abbrev.specs.BlockInfo.{Shared, shared, InfoItem, info_end, info_adds, info_now}
+use Rattle.abbrev.specs.BlockInfo.{Shared, shared, info_end, info_adds, info_now}
 use Rattle.abbrev.specs.declared.Abbreviations.{Abbreviations}
-use Rattle.abbrev.specs.declared.OperandWidth.{OperandWidth}
-use Rattle.abbrev.specs.declared.OperandWidth.TheVariants as W
+use Rattle.abbrev.specs.declared.BlockNumber.{BlockNumber}
 use Rattle.abbrev.specs.declared.Operand.{Operand}
 use Rattle.abbrev.specs.declared.Operand.TheVariants as O
-use Rattle.abbrev.specs.declared.Defined.{Defined}
-use Rattle.abbrev.specs.declared.Defined.TheVariants as F
-use Rattle.abbrev.specs.declared.Chosen.{Chosen}
-use Rattle.abbrev.specs.declared.Chosen.TheVariants as C
-use Rattle.abbrev.specs.declared.Named.{Named}
-use Rattle.abbrev.specs.declared.Named.TheVariants as N
-use Rattle.abbrev.specs.declared.Letters.{Letters}
-use Rattle.abbrev.specs.declared.Letters.TheVariants as L
-use Rattle.abbrev.specs.declared.InfoStep.{InfoStep}
-use Rattle.abbrev.specs.declared.InfoStep.TheVariants as S
-use Rattle.abbrev.specs.declared.Info.{Info}
-use Rattle.abbrev.specs.declared.Info.TheVariants as B
-use Rattle.abbrev.specs.declared.Row.{Row}
-use Rattle.abbrev.specs.declared.Row.TheVariants as R
+use Rattle.abbrev.specs.declared.InfoItem.{InfoItem}
+use Rattle.abbrev.specs.declared.InfoItem.TheVariants as S
 
 -- ---- sizes
 -- the slots of a row: one more than an abbreviation has operands
@@ -113,6 +103,11 @@ pub record Outside (from to : ℕ) (xs ys : List ℕ) : Type 0 where
   pub many : length ys ≡ length xs
   pub same : (j : ℕ) → (from ≤ j → j < to → ⊥) → get_or ys j 0 ≡ get_or xs j 0
 
+-- of the slots, their kinds ks and widths ws: all but the n slots from `from` on
+pub record KeptBut (from n : ℕ) (ks ks' ws ws' : List ℕ) : Type 0 where
+  pub kinds : Outside from (from + n) ks ks'
+  pub widths : Outside from (from + n) ws ws'
+
 -- and of all tables: the shared rows below `have` and the local rows below `local` hold what they held
 pub record Kept (have local : ℕ) (t t' : Tables) : Type 0 where
   pub many_kinds : length t'.kinds ≡ length t.kinds
@@ -140,38 +135,35 @@ NothingHeld a =
     × (a.shared ≡ 0) × (a.local ≡ 0)
 
 -- ---- the answers of the small readers
-abbrev pub of_width : OperandWidth → Told No ℕ
-of_width (W.Bits w d) = told w d
-of_width (W.Refused n x y) = refuses (no n x y)
+-- an operand as the definition has it
+abbrev pub operand_of : Operand → D.Operand
+operand_of (O.Scalar k) = D.scalar k
+operand_of O.Array = D.is_array
+operand_of O.Blob = D.is_blob
 
-abbrev pub of_operand : Operand → Told No D.Operand
-of_operand (O.Scalar k v d) = told (D.scalar (scalar_of k v)) d
-of_operand (O.Array d) = told D.is_array d
-of_operand (O.Blob d) = told D.is_blob d
-of_operand (O.Refused n x y) = refuses (no n x y)
+abbrev pub of_operand : Result (Operand × Cursor) Reason → Told No D.Operand
+of_operand (Ok (o, d)) = told (operand_of o) d
+of_operand (Err r) = refuses (no_of r)
 
-abbrev pub of_chosen : Chosen → Option ℕ
-of_chosen C.Nothing = nothing
-of_chosen (C.Block b) = some b.0
+-- the number of the block that SETBID chose
+abbrev pub of_chosen : RustOption BlockNumber → Option ℕ
+of_chosen None = nothing
+of_chosen (Some b) = some b.0
 
-abbrev pub of_named : Named → Told No (Option ℕ)
-of_named (N.Now b d) = told (of_chosen b) d
-of_named (N.Refused n x y) = refuses (no n x y)
-
-abbrev pub of_letters : Letters → Told No (Unit {0})
-of_letters (L.Behind d) = told tt d
-of_letters (L.Refused n x y) = refuses (no n x y)
+abbrev pub of_named : Result (RustOption BlockNumber × Cursor) Reason → Told No (Option ℕ)
+of_named (Ok (b, d)) = told (of_chosen b) d
+of_named (Err r) = refuses (no_of r)
 
 -- ---- a definition, in the slots from base on
-abbrev pub Defines : Cursor → List ℕ → Reader No Abbrev → List ℕ → List ℕ → ℕ → Defined → Type 0
-Defines c s m kinds widths base (F.Shape shape d) = At m s c.end c.at (abbrev_of kinds widths base shape) d
-Defines c s m kinds widths base (F.Refused n x y) = Off m s c.end c.at (no n x y)
+abbrev pub Defines : Cursor → List ℕ → Reader No Abbrev → List ℕ → List ℕ → ℕ → Result (ℕ × Cursor) Reason → Type 0
+Defines c s m kinds widths base (Ok (shape, d)) = At m s c.end c.at (abbrev_of kinds widths base shape) d
+Defines c s m kinds widths base (Err r) = Off m s c.end c.at (no_of r)
 
 -- an array's element, behind i scalars
-abbrev pub Elements : Cursor → List ℕ → List ℕ → List ℕ → ℕ → ℕ → Defined → Type 0
-Elements c s kinds widths base i (F.Shape shape d) =
+abbrev pub Elements : Cursor → List ℕ → List ℕ → List ℕ → ℕ → ℕ → Result (ℕ × Cursor) Reason → Type 0
+Elements c s kinds widths base i (Ok (shape, d)) =
     At (D.operand 0 >>= D.element) s c.end c.at (abbreviation [] (array (slot kinds widths (base + i)))) d × (shape ≡ i + row_size)
-Elements c s kinds widths base i (F.Refused n x y) = Off (D.operand 0 >>= D.element) s c.end c.at (no n x y)
+Elements c s kinds widths base i (Err r) = Off (D.operand 0 >>= D.element) s c.end c.at (no_of r)
 
 -- tables of so many kinds and widths hold the row; else there is no room
 unfoldable pub define_row : ℕ → ℕ → ℕ → Reader No Abbrev
@@ -180,12 +172,12 @@ define_row row kinds widths = do
   D.define
 
 -- ---- BLOCKINFO
-abbrev pub InfoDoes : Cursor → List ℕ → Reader No InfoItem → List ℕ → List ℕ → ℕ → InfoStep → Type 0
-InfoDoes c s m kinds widths have (S.End d) = At m s c.end c.at info_end d
-InfoDoes c s m kinds widths have (S.Adds b shape d) =
+abbrev pub InfoDoes : Cursor → List ℕ → Reader No I.InfoItem → List ℕ → List ℕ → ℕ → Result (InfoItem × Cursor) Reason → Type 0
+InfoDoes c s m kinds widths have (Ok (S.End, d)) = At m s c.end c.at info_end d
+InfoDoes c s m kinds widths have (Ok (S.Adds b shape, d)) =
     At m s c.end c.at (info_adds (shared b.0 (abbrev_of kinds widths (row_size * have) shape))) d × (have < max_shared)
-InfoDoes c s m kinds widths have (S.Now b d) = At m s c.end c.at (info_now (of_chosen b)) d
-InfoDoes c s m kinds widths have (S.Refused n x y) = Off m s c.end c.at (no n x y)
+InfoDoes c s m kinds widths have (Ok (S.Now b, d)) = At m s c.end c.at (info_now (of_chosen b)) d
+InfoDoes c s m kinds widths have (Err r) = Off m s c.end c.at (no_of r)
 
 unfoldable pub info_all : ℕ → ℕ → Reader Refusal (List Shared)
 info_all w have = turns (λ k. I.info k w nothing have)
@@ -210,9 +202,9 @@ pub record Adds (c : Cursor) (s : List ℕ) (m : Reader Refusal (List Shared)) (
   pub more : have ≤ have'
   pub most : have' ≤ max_shared
 
-abbrev pub InfoIs : Cursor → List ℕ → Reader Refusal (List Shared) → ℕ → Tables → Tables → Info → Type 0
-InfoIs c s m have t t' (B.Shared have') = Adds c s m have have' t t'
-InfoIs c s m have t t' (B.Refused n place x y) = m s c.end c.at ≡ refused (refusal n place x y)
+abbrev pub InfoIs : Cursor → List ℕ → Reader Refusal (List Shared) → ℕ → Tables → Tables → Result ℕ Refused → Type 0
+InfoIs c s m have t t' (Ok have') = Adds c s m have have' t t'
+InfoIs c s m have t t' (Err r) = m s c.end c.at ≡ refused (refusal_of r)
 
 -- ---- lookup
 -- of n shared rows from j on, those that are for the block b
@@ -231,6 +223,6 @@ row_at own base local n =
     when ltb (n - 4) (length own) then some (get_or own (n - 4) 0) else
     when leb local max_local && ltb (n - 4 - length own) (local - base) then some (first_local + base + (n - 4 - length own)) else nothing
 
-abbrev pub of_row : ℕ → ℕ → Option ℕ → Row
-of_row block number (some row) = R.At row
-of_row block number nothing = R.Refused 8 number block
+abbrev pub of_row : ℕ → ℕ → Option ℕ → Result ℕ Reason
+of_row block number (some row) = Ok row
+of_row block number nothing = Err (NoSuchAbbrev number block)

@@ -3,20 +3,16 @@
 // Each call is total and asks nothing of its caller: where the lent tables have no such row, there is no room (17).
 #![tactic(auto)]
 
-ghost use Rattle.std.specs.Prelude.{◌≡◌, ◌++◌, ◌+◌, ◌*◌, ◌<◌, ◌≤◌, min, length, drop};
+ghost use Rattle.std.specs.Prelude.{◌≡◌, ◌++◌, ◌+◌, ◌*◌, ◌<◌, ◌≤◌, length, drop};
 ghost use Rattle.terms.specs.Limits.{max_operands, max_shared};
-ghost use Rattle.bits.specs.Told.{Gives, of_read};
+ghost use Rattle.bits.specs.Told.{Gives, of_read, of_move};
 ghost use Rattle.abbrev.specs.Abbrev.{width, kind, operand, operands as operands_of, number_of};
 ghost use Rattle.abbrev.specs.BlockInfo.{every, letters as letters_of, set_bid, block_name, record_name, info_record, info_numbered, info_item};
-ghost use Rattle.abbrev.specs.Tables.{row_size, local_rows, shared_slots, Outside, tables, scalar_of, define_row, NothingHeld, of_width, of_operand, Elements, Defines, of_chosen, of_named, of_letters, InfoDoes, Kept, InfoIs, info_all, info_block, picked, row_at, of_row};
+ghost use Rattle.abbrev.specs.Tables.{row_size, local_rows, shared_slots, KeptBut, tables, scalar_of, define_row, NothingHeld, of_operand, Elements, Defines, of_chosen, of_named, InfoDoes, Kept, InfoIs, info_all, info_block, picked, row_at, of_row};
 
 use bitcode::ScalarOperand;
-use bits::{Cursor, Move, Read};
-use terms::{
-    ABBREV_WIDTH_TOO_SMALL, INVALID_ABBREV, INVALID_BLOCK_INFO_RECORD, MAX_LOCAL, MAX_OPERANDS,
-    MAX_SHARED, MISSING_SET_BID, NESTED_BLOCK_IN_BLOCK_INFO, NO_ABBREVIATION_ROOM, NO_SUCH_ABBREV,
-    UNEXPECTED_OPERAND, VALUE_OVERFLOW, VBR_OVERFLOW,
-};
+use bits::Cursor;
+use terms::{MAX_LOCAL, MAX_OPERANDS, MAX_SHARED, Reason, Refused};
 
 // The slots of a row: as many as an abbreviation has operands, and one.
 pub const ROW: usize = 33;
@@ -38,15 +34,16 @@ pub const ARRAY_SHAPE: u64 = 33;
 pub const BLOB_SHAPE: u64 = 66;
 
 // A block's number.
-#[derive(Clone, Copy)]
+#[derive(Clone, Copy, Debug, PartialEq, Eq)]
 pub struct BlockNumber(pub u64);
 
 // The number of an abbreviation in a block, which counts from 4.
-#[derive(Clone, Copy)]
+#[derive(Clone, Copy, Debug, PartialEq, Eq)]
 pub struct AbbrevNumber(pub u64);
 
 // The abbreviation state: for each slot the operand's kind (0 literal, 1 fixed, 2 VBR, 3 char6) and its width or value; for each row its shape; for
-// each shared row the number of the block that it is for; and how many rows are in use.
+// each shared row the number of the block that it is for; and how many rows are in use. Numbers in arrays of a fixed length, since there is no heap
+// and document 01 names them so: a caller may lend any slices of them, and any numbers in a slot are an operand.
 #[derive(Clone, Copy)]
 pub struct Abbreviations {
     pub kinds: [u8; SLOTS],
@@ -57,71 +54,20 @@ pub struct Abbreviations {
     pub local: usize,
 }
 
-// A width and the cursor behind it, or a refusal's number and details; so for each answer below.
-#[derive(Drop)]
-enum OperandWidth {
-    Bits(u64, Cursor),
-    Refused(u64, u64, u64),
-}
-
-// An operand of a definition: a kind with its width or value, an array, a blob.
-#[derive(Drop)]
+// An operand of a definition: a scalar, an array, a blob.
+#[derive(Clone, Copy, Debug, PartialEq, Eq)]
 enum Operand {
-    Scalar(u8, u64, Cursor),
-    Array(Cursor),
-    Blob(Cursor),
-    Refused(u64, u64, u64),
-}
-
-// A definition that stands in its row: its shape.
-#[derive(Clone, Copy)]
-pub enum Defined {
-    Shape(u64, Cursor),
-    Refused(u64, u64, u64),
-}
-
-// The block that SETBID chose in this BLOCKINFO.
-#[derive(Clone, Copy)]
-enum Chosen {
-    Nothing,
-    Block(BlockNumber),
-}
-
-// A record of BLOCKINFO: the block that is chosen behind it.
-#[derive(Drop)]
-enum Named {
-    Now(Chosen, Cursor),
-    Refused(u64, u64, u64),
-}
-
-// Name letters.
-#[derive(Drop)]
-enum Letters {
-    Behind(Cursor),
-    Refused(u64, u64, u64),
+    Scalar(ScalarOperand),
+    Array,
+    Blob,
 }
 
 // An item of BLOCKINFO: its end; one shared abbreviation more, with its block and its shape; or the block that is chosen behind a record.
-#[derive(Drop)]
-enum InfoStep {
-    End(Cursor),
-    Adds(BlockNumber, u64, Cursor),
-    Now(Chosen, Cursor),
-    Refused(u64, u64, u64),
-}
-
-// A whole BLOCKINFO: how many shared abbreviations there are behind it; or a refusal's number, place and details.
-#[derive(Clone, Copy)]
-pub enum Info {
-    Shared(usize),
-    Refused(u64, u64, u64, u64),
-}
-
-// The row that an abbreviation number stands for.
-#[derive(Clone, Copy)]
-pub enum Row {
-    At(usize),
-    Refused(u64, u64, u64),
+#[derive(Clone, Copy, Debug, PartialEq, Eq)]
+enum InfoItem {
+    End,
+    Adds(BlockNumber, u64),
+    Now(Option<BlockNumber>),
 }
 
 impl Abbreviations {
@@ -140,7 +86,7 @@ impl Abbreviations {
     }
 }
 
-// The scalar operand that a slot holds.
+// The scalar operand that a slot holds, for any two numbers: the tables are lent, so a kind that no slot is given is read as the last one.
 pub fn scalar_operand(kind: u8, width: u64) -> ScalarOperand
     ensures { result ≡ scalar_of kind width }
 {
@@ -152,92 +98,76 @@ pub fn scalar_operand(kind: u8, width: u64) -> ScalarOperand
     }
 }
 
+// The kind and the width, or value, of the slot that holds a scalar operand.
+fn slot_of(operand: ScalarOperand) -> (u8, u64)
+    ensures { scalar_of result.0 result.1 ≡ operand }
+{
+    match operand {
+        ScalarOperand::Literal(v) => (0, v),
+        ScalarOperand::Fixed(w) => (1, w),
+        ScalarOperand::Vbr(w) => (2, w),
+        ScalarOperand::Char6 => (3, 0),
+    }
+}
+
 // An item's number, of the block's width.
-pub fn read_number(c: Cursor, s: &[u8], width: u64) -> Read
+pub fn read_number(c: Cursor, s: &[u8], width: u64) -> Result<(u64, Cursor), Reason>
     ensures { Gives c s.now (number_of width) (of_read result) }
 {
     if width < 1 {
-        return Read::Refused(VBR_OVERFLOW);
+        return Err(Reason::VbrOverflow);
     }
     if 32 < width {
-        return Read::Refused(VBR_OVERFLOW);
+        return Err(Reason::VbrOverflow);
     }
     c.read(s, width)
 }
 
 // A width, vbr5.
-fn read_width(c: Cursor, s: &[u8]) -> OperandWidth
-    ensures { Gives c s.now width (of_width result) }
+fn read_width(c: Cursor, s: &[u8]) -> Result<(u64, Cursor), Reason>
+    ensures { Gives c s.now width (of_read result) }
 {
-    match c.read_vbr(s, 5) {
-        Read::Refused(e) => OperandWidth::Refused(e, 0, 0),
-        Read::Value(w, d) => {
-            if w < 1 {
-                return OperandWidth::Refused(ABBREV_WIDTH_TOO_SMALL, w, 0);
-            }
-            if 32 < w {
-                return OperandWidth::Refused(ABBREV_WIDTH_TOO_SMALL, w, 0);
-            }
-            OperandWidth::Bits(w, d)
-        }
+    let (w, d) = c.read_vbr(s, 5)?;
+    if w < 1 || 32 < w {
+        return Err(Reason::AbbrevWidthTooSmall(w));
     }
+    Ok((w, d))
 }
 
 // The operand of a kind; `left` operands are left behind it.
-fn read_kind(c: Cursor, s: &[u8], left: u64, k: u64) -> Operand
+fn read_kind(c: Cursor, s: &[u8], left: u64, k: u64) -> Result<(Operand, Cursor), Reason>
     ensures { Gives c s.now (kind left k) (of_operand result) }
 {
     match k {
-        1 => match read_width(c, s) {
-            OperandWidth::Refused(n, x, y) => Operand::Refused(n, x, y),
-            OperandWidth::Bits(w, d) => Operand::Scalar(1, w, d),
-        },
-        2 => match read_width(c, s) {
-            OperandWidth::Refused(n, x, y) => Operand::Refused(n, x, y),
-            OperandWidth::Bits(w, d) => Operand::Scalar(2, w, d),
-        },
-        3 => {
-            if left == 1 {
-                Operand::Array(c)
-            } else {
-                Operand::Refused(INVALID_ABBREV, 0, 0)
-            }
+        1 => {
+            let (w, d) = read_width(c, s)?;
+            Ok((Operand::Scalar(ScalarOperand::Fixed(w)), d))
         }
-        4 => Operand::Scalar(3, 0, c),
-        5 => {
-            if left == 0 {
-                Operand::Blob(c)
-            } else {
-                Operand::Refused(INVALID_ABBREV, 0, 0)
-            }
+        2 => {
+            let (w, d) = read_width(c, s)?;
+            Ok((Operand::Scalar(ScalarOperand::Vbr(w)), d))
         }
-        _ => Operand::Refused(INVALID_ABBREV, 0, 0),
+        3 if left == 1 => Ok((Operand::Array, c)),
+        4 => Ok((Operand::Scalar(ScalarOperand::Char6), c)),
+        5 if left == 0 => Ok((Operand::Blob, c)),
+        _ => Err(Reason::InvalidAbbrev),
     }
 }
 
 // One operand: 1 bit; if 1, a literal, vbr8. Else 3 bits for the kind.
-fn read_abbrev_op(c: Cursor, s: &[u8], left: u64) -> Operand
+fn read_abbrev_op(c: Cursor, s: &[u8], left: u64) -> Result<(Operand, Cursor), Reason>
     ensures { Gives c s.now (operand left) (of_operand result) }
 {
-    match c.read(s, 1) {
-        Read::Refused(e) => Operand::Refused(e, 0, 0),
-        Read::Value(b, d) => {
-            if b == 1 {
-                match d.read_vbr(s, 8) {
-                    Read::Refused(e) => Operand::Refused(e, 0, 0),
-                    Read::Value(v, f) => Operand::Scalar(0, v, f),
-                }
-            } else {
-                match d.read(s, 3) {
-                    Read::Refused(e) => Operand::Refused(e, 0, 0),
-                    Read::Value(k, f) => read_kind(f, s, left, k),
-                }
-            }
-        }
+    let (b, d) = c.read(s, 1)?;
+    if b == 1 {
+        let (v, e) = d.read_vbr(s, 8)?;
+        return Ok((Operand::Scalar(ScalarOperand::Literal(v)), e));
     }
+    let (k, f) = d.read(s, 3)?;
+    read_kind(f, s, left, k)
 }
 
-// An array's element, into the slot behind i scalars of the row at base.
+// An array's element, into the slot behind i scalars of the row at base: the row's shape.
 fn read_element(
     c: Cursor,
     s: &[u8],
@@ -245,190 +175,162 @@ fn read_element(
     widths: &mut [u64],
     base: usize,
     i: usize,
-) -> Defined
+) -> Result<(u64, Cursor), Reason>
     requires { (base + i < length kinds.old) × (base + i < length widths.old) × (i ≤ max_operands) }
-    ensures kept { Outside (base + i) (base + i + 1) kinds.old kinds.new × Outside (base + i) (base + i + 1) widths.old widths.new }
+    ensures kept { KeptBut (base + i) 1 kinds.old kinds.new widths.old widths.new }
     ensures gives { Elements c s.now kinds.new widths.new base i result }
 {
-    match read_abbrev_op(c, s, 0) {
-        Operand::Refused(n, x, y) => Defined::Refused(n, x, y),
-        Operand::Array(_) => Defined::Refused(INVALID_ABBREV, 0, 0),
-        Operand::Blob(_) => Defined::Refused(UNEXPECTED_OPERAND, 0, 0),
-        Operand::Scalar(k, v, d) => {
+    let (element, d) = read_abbrev_op(c, s, 0)?;
+    match element {
+        Operand::Array => Err(Reason::InvalidAbbrev),
+        Operand::Blob => Err(Reason::UnexpectedOperand),
+        Operand::Scalar(scalar) => {
             let j = base + i;
-            kinds[j] = k;
-            widths[j] = v;
-            Defined::Shape(i as u64 + ARRAY_SHAPE, d)
+            let (kind, width) = slot_of(scalar);
+            kinds[j] = kind;
+            widths[j] = width;
+            Ok((i as u64 + ARRAY_SHAPE, d))
         }
     }
 }
 
-// So many operands, into the row at base.
+// So many operands, into the row at base: the row's shape.
 fn read_operands(
-    c0: Cursor,
+    mut c: Cursor,
     s: &[u8],
     total: usize,
     kinds: &mut [u8],
     widths: &mut [u64],
     base: usize,
-) -> Defined
+) -> Result<(u64, Cursor), Reason>
     requires { (base + row_size ≤ length kinds.old) × (base + row_size ≤ length widths.old) × (total ≤ max_operands) }
-    ensures kept { Outside base (base + row_size) kinds.old kinds.new × Outside base (base + row_size) widths.old widths.new }
-    ensures gives { Defines c0 s.now (operands_of total) kinds.new widths.new base result }
+    ensures kept { KeptBut base row_size kinds.old kinds.new widths.old widths.new }
+    ensures gives { Defines c s.now (operands_of total) kinds.new widths.new base result }
 {
-    let mut c = c0;
-    let mut i: usize = 0;
-    let mut left = total;
-    loop {
-        if left == 0 {
-            return Defined::Shape(i as u64, c);
-        }
-        left = left - 1;
-        match read_abbrev_op(c, s, left as u64) {
-            Operand::Refused(n, x, y) => {
-                return Defined::Refused(n, x, y);
-            }
-            Operand::Blob(d) => {
-                return Defined::Shape(i as u64 + BLOB_SHAPE, d);
-            }
-            Operand::Array(d) => {
-                return read_element(d, s, kinds, widths, base, i);
-            }
-            Operand::Scalar(k, v, d) => {
+    for i in 0..total {
+        let (operand, d) = read_abbrev_op(c, s, (total - 1 - i) as u64)?;
+        match operand {
+            Operand::Blob => return Ok((i as u64 + BLOB_SHAPE, d)),
+            Operand::Array => return read_element(d, s, kinds, widths, base, i),
+            Operand::Scalar(scalar) => {
                 let j = base + i;
-                kinds[j] = k;
-                widths[j] = v;
-                i = i + 1;
+                let (kind, width) = slot_of(scalar);
+                kinds[j] = kind;
+                widths[j] = width;
                 c = d;
             }
         }
     }
+    Ok((total as u64, c))
 }
 
-// A definition, into a row of the tables. Of what a refused one leaves in its row nothing is said: no number stands for that row.
+// A definition, into a row of the tables: the row's shape. Of what a refused one leaves in its row nothing is said: no number stands for that row.
 pub fn define_abbrev(
     c: Cursor,
     s: &[u8],
     kinds: &mut [u8],
     widths: &mut [u64],
     row: usize,
-) -> Defined
-    ensures kept { Outside (row_size * row) (row_size * row + row_size) kinds.old kinds.new × Outside (row_size * row) (row_size * row + row_size) widths.old widths.new }
+) -> Result<(u64, Cursor), Reason>
+    ensures kept { KeptBut (row_size * row) row_size kinds.old kinds.new widths.old widths.new }
     ensures gives { Defines c s.now (define_row row (length kinds.old) (length widths.old)) kinds.new widths.new (row_size * row) result }
 {
     if ROWS <= row {
-        return Defined::Refused(NO_ABBREVIATION_ROOM, 0, 0);
+        return Err(Reason::NoAbbreviationRoom);
     }
     let base = ROW * row;
     if kinds.len() < base + ROW {
-        return Defined::Refused(NO_ABBREVIATION_ROOM, 0, 0);
+        return Err(Reason::NoAbbreviationRoom);
     }
     if widths.len() < base + ROW {
-        return Defined::Refused(NO_ABBREVIATION_ROOM, 0, 0);
+        return Err(Reason::NoAbbreviationRoom);
     }
-    match c.read_vbr(s, 5) {
-        Read::Refused(e) => Defined::Refused(e, 0, 0),
-        Read::Value(n, d) => {
-            if MAX_OPERANDS < n {
-                return Defined::Refused(NO_ABBREVIATION_ROOM, 0, 0);
-            }
-            read_operands(d, s, n as usize, kinds, widths, base)
-        }
+    let (n, d) = c.read_vbr(s, 5)?;
+    if MAX_OPERANDS < n {
+        return Err(Reason::NoAbbreviationRoom);
     }
+    read_operands(d, s, n as usize, kinds, widths, base)
 }
 
 // So many name letters, each judged as it is read.
-fn read_letters(c0: Cursor, s: &[u8], count: u64) -> Letters
-    ensures { Gives c0 s.now (letters_of count) (of_letters result) }
+fn read_letters(mut c: Cursor, s: &[u8], count: u64) -> Result<Cursor, Reason>
+    ensures { Gives c s.now (letters_of count) (of_move result) }
 {
-    let mut c = c0;
-    let mut left = count;
-    loop {
-        if left == 0 {
-            return Letters::Behind(c);
+    for _ in 0..count {
+        let (letter, d) = c.read_vbr(s, 6)?;
+        if 255 < letter {
+            return Err(Reason::ValueOverflow);
         }
-        match c.read_vbr(s, 6) {
-            Read::Refused(e) => {
-                return Letters::Refused(e, 0, 0);
-            }
-            Read::Value(v, d) => {
-                if 255 < v {
-                    return Letters::Refused(VALUE_OVERFLOW, 0, 0);
-                }
-                left = left - 1;
-                c = d;
-            }
-        }
+        c = d;
     }
+    Ok(c)
 }
 
 // SETBID: exactly one operand, a block number.
-fn read_set_bid(c: Cursor, s: &[u8], count: u64) -> Named
+fn read_set_bid(c: Cursor, s: &[u8], count: u64) -> Result<(Option<BlockNumber>, Cursor), Reason>
     ensures { Gives c s.now (set_bid every count) (of_named result) }
 {
     if count != 1 {
-        return Named::Refused(INVALID_BLOCK_INFO_RECORD, 1, 0);
+        return Err(Reason::InvalidBlockInfoRecord(1));
     }
-    match c.read_vbr(s, 6) {
-        Read::Refused(_) => Named::Refused(INVALID_BLOCK_INFO_RECORD, 1, 0),
-        Read::Value(b, d) => {
-            if 0x1_0000_0000 <= b {
-                return Named::Refused(INVALID_BLOCK_INFO_RECORD, 1, 0);
-            }
-            Named::Now(Chosen::Block(BlockNumber(b)), d)
-        }
+    let (b, d) = c
+        .read_vbr(s, 6)
+        .map_err(|_| Reason::InvalidBlockInfoRecord(1))?;
+    if 0x1_0000_0000 <= b {
+        return Err(Reason::InvalidBlockInfoRecord(1));
     }
+    Ok((Some(BlockNumber(b)), d))
 }
 
 // BLOCKNAME: letters, for the block that is chosen.
-fn read_block_name(c: Cursor, s: &[u8], chosen: Chosen, count: u64) -> Named
+fn read_block_name(
+    c: Cursor,
+    s: &[u8],
+    chosen: Option<BlockNumber>,
+    count: u64,
+) -> Result<(Option<BlockNumber>, Cursor), Reason>
     ensures { Gives c s.now (block_name (of_chosen chosen) count) (of_named result) }
 {
-    match chosen {
-        Chosen::Nothing => Named::Refused(MISSING_SET_BID, 0, 0),
-        Chosen::Block(b) => match read_letters(c, s, count) {
-            Letters::Refused(n, x, y) => Named::Refused(n, x, y),
-            Letters::Behind(d) => Named::Now(Chosen::Block(b), d),
-        },
-    }
+    chosen.ok_or(Reason::MissingSetBid)?;
+    let d = read_letters(c, s, count)?;
+    Ok((chosen, d))
 }
 
 // SETRECORDNAME: a record's code, then letters.
-fn read_record_name(c: Cursor, s: &[u8], chosen: Chosen, count: u64) -> Named
+fn read_record_name(
+    c: Cursor,
+    s: &[u8],
+    chosen: Option<BlockNumber>,
+    count: u64,
+) -> Result<(Option<BlockNumber>, Cursor), Reason>
     ensures { Gives c s.now (record_name every (of_chosen chosen) count) (of_named result) }
 {
-    match chosen {
-        Chosen::Nothing => Named::Refused(MISSING_SET_BID, 0, 0),
-        Chosen::Block(b) => {
-            if count == 0 {
-                return Named::Refused(INVALID_BLOCK_INFO_RECORD, 3, 0);
-            }
-            match c.read_vbr(s, 6) {
-                Read::Refused(_) => Named::Refused(INVALID_BLOCK_INFO_RECORD, 3, 0),
-                Read::Value(_, d) => match read_letters(d, s, count - 1) {
-                    Letters::Refused(n, x, y) => Named::Refused(n, x, y),
-                    Letters::Behind(e) => Named::Now(Chosen::Block(b), e),
-                },
-            }
-        }
+    chosen.ok_or(Reason::MissingSetBid)?;
+    if count == 0 {
+        return Err(Reason::InvalidBlockInfoRecord(3));
     }
+    let (_, d) = c
+        .read_vbr(s, 6)
+        .map_err(|_| Reason::InvalidBlockInfoRecord(3))?;
+    let e = read_letters(d, s, count - 1)?;
+    Ok((chosen, e))
 }
 
 // A record of BLOCKINFO: code and count, vbr6, then what the code says.
-fn read_info_record(c: Cursor, s: &[u8], chosen: Chosen) -> Named
+fn read_info_record(
+    c: Cursor,
+    s: &[u8],
+    chosen: Option<BlockNumber>,
+) -> Result<(Option<BlockNumber>, Cursor), Reason>
     ensures { Gives c s.now (info_record every (of_chosen chosen)) (of_named result) }
 {
-    match c.read_vbr(s, 6) {
-        Read::Refused(e) => Named::Refused(e, 0, 0),
-        Read::Value(code, d) => match d.read_vbr(s, 6) {
-            Read::Refused(e) => Named::Refused(e, 0, 0),
-            Read::Value(n, f) => match code {
-                1 => read_set_bid(f, s, n),
-                2 => read_block_name(f, s, chosen, n),
-                3 => read_record_name(f, s, chosen, n),
-                _ => Named::Refused(INVALID_BLOCK_INFO_RECORD, code, 0),
-            },
-        },
+    let (code, d) = c.read_vbr(s, 6)?;
+    let (n, e) = d.read_vbr(s, 6)?;
+    match code {
+        1 => read_set_bid(e, s, n),
+        2 => read_block_name(e, s, chosen, n),
+        3 => read_record_name(e, s, chosen, n),
+        _ => Err(Reason::InvalidBlockInfoRecord(code)),
     }
 }
 
@@ -436,27 +338,21 @@ fn read_info_record(c: Cursor, s: &[u8], chosen: Chosen) -> Named
 fn read_info_definition(
     c: Cursor,
     s: &[u8],
-    chosen: Chosen,
+    chosen: Option<BlockNumber>,
     kinds: &mut [u8],
     widths: &mut [u64],
     have: usize,
-) -> InfoStep
+) -> Result<(InfoItem, Cursor), Reason>
     requires { (have ≤ max_shared) × (shared_slots ≤ length kinds.old) × (shared_slots ≤ length widths.old) }
-    ensures kept { Outside (row_size * have) (row_size * have + row_size) kinds.old kinds.new × Outside (row_size * have) (row_size * have + row_size) widths.old widths.new }
+    ensures kept { KeptBut (row_size * have) row_size kinds.old kinds.new widths.old widths.new }
     ensures does { InfoDoes c s.now (info_numbered every (of_chosen chosen) have 2) kinds.new widths.new have result }
 {
-    match chosen {
-        Chosen::Nothing => InfoStep::Refused(MISSING_SET_BID, 0, 0),
-        Chosen::Block(b) => match define_abbrev(c, s, kinds, widths, have) {
-            Defined::Refused(n, x, y) => InfoStep::Refused(n, x, y),
-            Defined::Shape(shape, d) => {
-                if MAX_SHARED <= have {
-                    return InfoStep::Refused(NO_ABBREVIATION_ROOM, 0, 0);
-                }
-                InfoStep::Adds(b, shape, d)
-            }
-        },
+    let block = chosen.ok_or(Reason::MissingSetBid)?;
+    let (shape, d) = define_abbrev(c, s, kinds, widths, have)?;
+    if MAX_SHARED <= have {
+        return Err(Reason::NoAbbreviationRoom);
     }
+    Ok((InfoItem::Adds(block, shape), d))
 }
 
 // An item of BLOCKINFO.
@@ -464,36 +360,34 @@ fn read_info_item(
     c: Cursor,
     s: &[u8],
     width: u64,
-    chosen: Chosen,
+    chosen: Option<BlockNumber>,
     kinds: &mut [u8],
     widths: &mut [u64],
     have: usize,
-) -> InfoStep
+) -> Result<(InfoItem, Cursor), Reason>
     requires { (have ≤ max_shared) × (shared_slots ≤ length kinds.old) × (shared_slots ≤ length widths.old) }
-    ensures kept { Outside (row_size * have) (row_size * have + row_size) kinds.old kinds.new × Outside (row_size * have) (row_size * have + row_size) widths.old widths.new }
+    ensures kept { KeptBut (row_size * have) row_size kinds.old kinds.new widths.old widths.new }
     ensures does { InfoDoes c s.now (info_item every width (of_chosen chosen) have) kinds.new widths.new have result }
 {
-    match read_number(c, s, width) {
-        Read::Refused(e) => InfoStep::Refused(e, 0, 0),
-        Read::Value(n, d) => match n {
-            0 => match d.align32(s) {
-                Move::Stays(e) => InfoStep::Refused(e, 0, 0),
-                Move::To(f) => InfoStep::End(f),
-            },
-            1 => InfoStep::Refused(NESTED_BLOCK_IN_BLOCK_INFO, 0, 0),
-            2 => read_info_definition(d, s, chosen, kinds, widths, have),
-            3 => match read_info_record(d, s, chosen) {
-                Named::Refused(e, x, y) => InfoStep::Refused(e, x, y),
-                Named::Now(b, f) => InfoStep::Now(b, f),
-            },
-            _ => InfoStep::Refused(NO_SUCH_ABBREV, n, 0),
-        },
+    let (n, d) = read_number(c, s, width)?;
+    match n {
+        0 => {
+            let e = d.align32(s)?;
+            Ok((InfoItem::End, e))
+        }
+        1 => Err(Reason::NestedBlockInBlockInfo),
+        2 => read_info_definition(d, s, chosen, kinds, widths, have),
+        3 => {
+            let (now, e) = read_info_record(d, s, chosen)?;
+            Ok((InfoItem::Now(now), e))
+        }
+        _ => Err(Reason::NoSuchAbbrev(n, 0)),
     }
 }
 
 // The items of BLOCKINFO, into tables that have all shared rows.
 fn read_info_items(
-    c0: Cursor,
+    mut c: Cursor,
     s: &[u8],
     width: u64,
     kinds: &mut [u8],
@@ -501,38 +395,33 @@ fn read_info_items(
     shapes: &mut [u64],
     owners: &mut [u64],
     shared: usize,
-) -> Info
-    requires { (shared ≤ max_shared) × (shared_slots ≤ length kinds.old) × (shared_slots ≤ length widths.old) × (max_shared ≤ length shapes.old) × (max_shared ≤ length owners.old) }
+) -> Result<usize, Refused>
+    requires slots { (shared ≤ max_shared) × (shared_slots ≤ length kinds.old) × (shared_slots ≤ length widths.old) }
+    requires rows { (max_shared ≤ length shapes.old) × (max_shared ≤ length owners.old) }
     ensures kept { Kept shared local_rows (tables kinds.old widths.old shapes.old owners.old) (tables kinds.new widths.new shapes.new owners.new) }
-    ensures is { InfoIs c0 s.now (info_all width shared) shared (tables kinds.old widths.old shapes.old owners.old) (tables kinds.new widths.new shapes.new owners.new) result }
+    ensures is { let t = tables kinds.old widths.old shapes.old owners.old in InfoIs c s.now (info_all width shared) shared t (tables kinds.new widths.new shapes.new owners.new) result }
 {
-    let mut c = c0;
     let mut have = shared;
-    let mut chosen = Chosen::Nothing;
+    let mut chosen = None;
     loop {
         let at = c.at;
-        match read_info_item(c, s, width, chosen, kinds, widths, have) {
-            InfoStep::Refused(n, x, y) => {
-                return Info::Refused(n, at, x, y);
-            }
-            InfoStep::End(_) => {
-                return Info::Shared(have);
-            }
-            InfoStep::Adds(b, shape, d) => {
+        let (item, d) = read_info_item(c, s, width, chosen, kinds, widths, have).map_err(|e| e.at(
+            at,
+        ))?;
+        match item {
+            InfoItem::End => return Ok(have),
+            InfoItem::Adds(block, shape) => {
                 shapes[have] = shape;
-                owners[have] = b.0;
-                have = have + 1;
-                c = d;
+                owners[have] = block.0;
+                have += 1;
             }
-            InfoStep::Now(b, d) => {
-                chosen = b;
-                c = d;
-            }
+            InfoItem::Now(now) => chosen = now,
         }
+        c = d;
     }
 }
 
-// A BLOCKINFO's body from the cursor on: what it defines stands behind the shared abbreviations that there are.
+// A BLOCKINFO's body from the cursor on: what it defines stands behind the shared abbreviations that there are, and it says how many they are then.
 pub fn read_block_info_block(
     c: Cursor,
     s: &[u8],
@@ -542,53 +431,39 @@ pub fn read_block_info_block(
     shapes: &mut [u64],
     owners: &mut [u64],
     shared: usize,
-) -> Info
+) -> Result<usize, Refused>
     ensures kept { Kept shared local_rows (tables kinds.old widths.old shapes.old owners.old) (tables kinds.new widths.new shapes.new owners.new) }
-    ensures is { InfoIs c s.now (info_block width shared (tables kinds.old widths.old shapes.old owners.old)) shared (tables kinds.old widths.old shapes.old owners.old) (tables kinds.new widths.new shapes.new owners.new) result }
+    ensures is { let t = tables kinds.old widths.old shapes.old owners.old in InfoIs c s.now (info_block width shared t) shared t (tables kinds.new widths.new shapes.new owners.new) result }
 {
-    let at = c.at;
     if MAX_SHARED < shared {
-        return Info::Refused(NO_ABBREVIATION_ROOM, at, 0, 0);
+        return Err(Reason::NoAbbreviationRoom.at(c.at));
     }
     if kinds.len() < SHARED_SLOTS || widths.len() < SHARED_SLOTS {
-        return Info::Refused(NO_ABBREVIATION_ROOM, at, 0, 0);
+        return Err(Reason::NoAbbreviationRoom.at(c.at));
     }
     if shapes.len() < MAX_SHARED || owners.len() < MAX_SHARED {
-        return Info::Refused(NO_ABBREVIATION_ROOM, at, 0, 0);
+        return Err(Reason::NoAbbreviationRoom.at(c.at));
     }
     read_info_items(c, s, width, kinds, widths, shapes, owners, shared)
 }
 
-// The lesser of two numbers.
-fn least(a: usize, b: usize) -> usize
-    ensures { result ≡ min a b }
-{
-    if a < b { a } else { b }
-}
-
 // The shared rows that are for a block, in their order, of the first `shared`: their numbers go into `rows`. It says how many they are.
 pub fn shared_rows(block: BlockNumber, owners: &[u64], shared: usize, rows: &mut [u8]) -> usize
-    ensures { (result ≡ length (picked block.0 owners.now shared (length rows.old))) × (rows.new ≡ picked block.0 owners.now shared (length rows.old) ++ drop result rows.old) }
+    ensures many { result ≡ length (picked block.0 owners.now shared (length rows.old)) }
+    ensures stored { rows.new ≡ picked block.0 owners.now shared (length rows.old) ++ drop result rows.old }
 {
-    let b = block.0;
-    let many = least(least(shared, MAX_SHARED), owners.len());
-    let mut j: usize = 0;
-    let mut k: usize = 0;
-    loop {
-        if many <= j {
-            return k;
-        }
+    let many = shared.min(MAX_SHARED).min(owners.len());
+    let mut k = 0;
+    for (j, owner) in owners[..many].iter().enumerate() {
         if rows.len() <= k {
             return k;
         }
-        if owners[j] == b {
+        if BlockNumber(*owner) == block {
             rows[k] = j as u8;
-            k = k + 1;
-            j = j + 1;
-        } else {
-            j = j + 1;
+            k += 1;
         }
     }
+    k
 }
 
 // The row that a number stands for in a block: first the shared rows that are for the block, then its local ones, from the local row `base` on up to
@@ -599,23 +474,23 @@ pub fn look_up(
     shared: &[u8],
     base: usize,
     local: usize,
-) -> Row
+) -> Result<usize, Reason>
     ensures { result ≡ of_row block.0 number.0 (row_at shared.now base local number.0) }
 {
     let n = number.0;
     if n < 4 {
-        return Row::Refused(NO_SUCH_ABBREV, n, block.0);
+        return Err(Reason::NoSuchAbbrev(n, block.0));
     }
     let i = n - 4;
     let own = shared.len() as u64;
     if i < own {
-        return Row::At(shared[i as usize] as usize);
+        return Ok(shared[i as usize] as usize);
     }
     if MAX_LOCAL < local || local < base {
-        return Row::Refused(NO_SUCH_ABBREV, n, block.0);
+        return Err(Reason::NoSuchAbbrev(n, block.0));
     }
     if (local - base) as u64 <= i - own {
-        return Row::Refused(NO_SUCH_ABBREV, n, block.0);
+        return Err(Reason::NoSuchAbbrev(n, block.0));
     }
-    Row::At(LOCAL + base + (i - own) as usize)
+    Ok(LOCAL + base + (i - own) as usize)
 }

@@ -1,5 +1,7 @@
 -- The laws of the header's definition: what it is by its tests, and back, what a header that is there says of its input; and those of a part of a
 -- stream. Assumes nothing.
+use Rattle.std.specs.Prelude.{Ok, Err}
+use Rattle.terms.specs.declared.Reason.{Reason}
 use mathlib.Core.Bool.{Bool, true, false, ◌&&◌}
 use mathlib.Core.List.{List, [], ◌∷◌}
 use mathlib.Core.Path.{◌≡◌, refl, ap, ◌∙◌}
@@ -12,7 +14,6 @@ use lib.Dec.{ltb, leb, eqb}
 use borrow.Author.Tests.{lt-ltb, le-ltb, le-leb, lt-leb, eq-eqb, ne_eqb, ltb-false, leb-true, eqb-true, eqb-false}
 use Rattle.bits.specs.Reader.{when◌then◌else◌}
 use Rattle.bitcode.specs.declared.Signature.{Signature}
-use Rattle.bitcode.specs.declared.Parsed.TheVariants.{Signed, Refused}
 use Rattle.bitcode.specs.Header.{word, wrapper_magic, Opened, unsigned, opened, wrapped, signature, parsed, stream, bytes_of}
 
 -- ---- by the tests
@@ -99,16 +100,16 @@ signature_opens bs h t e = go (ltb (length bs) 4) (eqb (word bs 0) wrapper_magic
         rw k (record { some = ltb-false _ _ i; plain = λ n. r; wraps = λ m. absurd (eqb-false _ _ j m) })
 
 -- what the code's answer says of the definition's
-pub parsed_none : (o : Opened) (k : ℕ) → parsed o ≡ Refused k → stream o ≡ []
+pub parsed_none : (o : Opened) (k : Reason) → parsed o ≡ Err k → stream o ≡ []
 unfolding parsed stream
 parsed_none unsigned k e = refl
 parsed_none (opened h s) k e = absurd (let z : ◌≡◌ {A = ℕ} 0 1 = cc in omega arith)
 
-pub parsed_opens : (bs : List ℕ) (h : Signature) → parsed (signature bs) ≡ Signed h → Opens bs h (stream (signature bs))
+pub parsed_opens : (bs : List ℕ) (h : Signature) → parsed (signature bs) ≡ Ok h → Opens bs h (stream (signature bs))
 unfolding parsed stream
 parsed_opens bs h e = go (signature bs) refl e
   where
-    go : (o : Opened) → signature bs ≡ o → parsed o ≡ Signed h → Opens bs h (stream o)
+    go : (o : Opened) → signature bs ≡ o → parsed o ≡ Ok h → Opens bs h (stream o)
     go unsigned i x = absurd (let z : ◌≡◌ {A = ℕ} 0 1 = cc in omega arith)
     go (opened g s) i x = let k : g ≡ h = cc in signature_opens bs h s (rw k at i)
 

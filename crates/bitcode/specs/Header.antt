@@ -1,9 +1,9 @@
 -- The header, the stream behind it, and a blob's part of it (01, "Header", "Walk"). Assumes nothing.
-use Rattle.std.specs.Prelude.{◌&&◌, List, [], ℕ, ◌+◌, ◌-◌, ◌*◌, get_or, length, take, drop, ltb, leb, eqb}
+use Rattle.std.specs.Prelude.{◌&&◌, List, [], ℕ, ◌+◌, ◌-◌, ◌*◌, get_or, length, take, drop, ltb, leb, eqb, Result, Ok, Err}
+use Rattle.terms.specs.declared.Reason.{Reason}
+use Rattle.terms.specs.declared.Reason.TheVariants.{InvalidSignature}
 use Rattle.bits.specs.Reader.{when◌then◌else◌}
 use Rattle.bitcode.specs.declared.Signature.{Signature}
-use Rattle.bitcode.specs.declared.Parsed.{Parsed}
-use Rattle.bitcode.specs.declared.Parsed.TheVariants.{Signed, Refused}
 
 -- the 32-bit word at the byte k, its first byte lowest
 unfoldable pub word : List ℕ → ℕ → ℕ
@@ -38,9 +38,9 @@ signature bs =
     opened (record { magic = word bs 0; magic2 = 0; version = 0; offset = 4; size = length bs - 4; cpu = 0 }) (drop 4 bs)
 
 -- what the code's call answers: the numbers, or 1
-unfoldable pub parsed : Opened → Parsed
-parsed unsigned = Refused 1
-parsed (opened h s) = Signed h
+unfoldable pub parsed : Opened → Result Signature Reason
+parsed unsigned = Err InvalidSignature
+parsed (opened h s) = Ok h
 
 -- the stream; none where there is no header
 unfoldable pub stream : Opened → List ℕ

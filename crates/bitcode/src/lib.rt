@@ -7,16 +7,16 @@ ghost use Rattle.bits.specs.Told.{Gives, of_read};
 ghost use Rattle.bitcode.specs.Scalar.{ascii, value};
 ghost use Rattle.bitcode.specs.declared.ScalarOperand.TheVariants.{Char6};
 ghost use Rattle.bitcode.specs.Header.{word, wrapped as wrapped_of, signature, parsed, stream as stream_of, bytes_of, blob_of};
-ghost use Rattle.bitcode.specs.Operands.{next, next_below, next_bool, next_signed, next_range, place_of, of_u8, of_u16, of_u32, of_u64, of_bool, of_i64, of_range};
+ghost use Rattle.bitcode.specs.Operands.{next, next_below, next_bool, next_signed, next_range, place_of, of_next};
 
-use bits::{Cursor, Read};
-use terms::{END_OF_RECORD, INVALID_SIGNATURE, VALUE_OVERFLOW};
+use bits::Cursor;
+use terms::Reason;
 
 // The word that a wrapper's header begins with.
 pub const LLVM_BITCODE_WRAPPER_MAGIC: u64 = 0x0B17_C0DE;
 
 // How a scalar operand of an abbreviation is read.
-#[derive(Clone, Copy)]
+#[derive(Clone, Copy, Debug, PartialEq, Eq)]
 pub enum ScalarOperand {
     Literal(u64),
     Fixed(u64),
@@ -25,7 +25,7 @@ pub enum ScalarOperand {
 }
 
 // The header numbers: without a wrapper `offset` is 4, `size` the length of what follows, and the others but `magic` are 0.
-#[derive(Clone, Copy)]
+#[derive(Clone, Copy, Debug, Default, PartialEq, Eq)]
 pub struct Signature {
     pub magic: u64,
     pub magic2: u64,
@@ -35,68 +35,18 @@ pub struct Signature {
     pub cpu: u64,
 }
 
-// The header, or the refusal's number.
-#[derive(Clone, Copy)]
-pub enum Parsed {
-    Signed(Signature),
-    Refused(u64),
-}
-
 // The operands of a record that are not yet taken: the place of the next one in the operand store, and the place behind the last one.
-#[derive(Clone, Copy)]
+#[derive(Clone, Copy, Debug, PartialEq, Eq)]
 pub struct Operands {
     pub at: u64,
     pub end: u64,
 }
 
 // From `start` on, up to `end`, which is not part of it.
-#[derive(Clone, Copy)]
+#[derive(Clone, Copy, Debug, PartialEq, Eq)]
 pub struct Range {
     pub start: u64,
     pub end: u64,
-}
-
-// An operand and the operands behind it, or the refusal's number; so for each type below.
-#[derive(Clone, Copy)]
-pub enum NextU8 {
-    Value(u8, Operands),
-    Refused(u64),
-}
-
-#[derive(Clone, Copy)]
-pub enum NextU16 {
-    Value(u16, Operands),
-    Refused(u64),
-}
-
-#[derive(Clone, Copy)]
-pub enum NextU32 {
-    Value(u32, Operands),
-    Refused(u64),
-}
-
-#[derive(Clone, Copy)]
-pub enum NextU64 {
-    Value(u64, Operands),
-    Refused(u64),
-}
-
-#[derive(Clone, Copy)]
-pub enum NextBool {
-    Value(bool, Operands),
-    Refused(u64),
-}
-
-#[derive(Clone, Copy)]
-pub enum NextI64 {
-    Value(i64, Operands),
-    Refused(u64),
-}
-
-#[derive(Clone, Copy)]
-pub enum NextRange {
-    Value(Range, Operands),
-    Refused(u64),
 }
 
 // The letter that a six-bit number stands for. What stands behind the two alphabets is settled first, so that each match becomes a choice with no
@@ -117,58 +67,53 @@ fn letter(v: u64) -> u64
 }
 
 // A letter of six bits.
-pub fn read_char6(c: Cursor, s: &[u8]) -> Read
+pub fn read_char6(c: Cursor, s: &[u8]) -> Result<(u64, Cursor), Reason>
     ensures { Gives c s.now (value Char6) (of_read result) }
 {
-    match c.read(s, 6) {
-        Read::Refused(e) => Read::Refused(e),
-        Read::Value(v, d) => Read::Value(letter(v), d),
-    }
+    let (v, behind) = c.read(s, 6)?;
+    Ok((letter(v), behind))
 }
 
 // One scalar operand.
-pub fn read_scalar_operand(c: Cursor, s: &[u8], operand: ScalarOperand) -> Read
+pub fn read_scalar_operand(
+    c: Cursor,
+    s: &[u8],
+    operand: ScalarOperand,
+) -> Result<(u64, Cursor), Reason>
     ensures { Gives c s.now (value operand) (of_read result) }
 {
     match operand {
-        ScalarOperand::Literal(v) => Read::Value(v, c),
+        ScalarOperand::Literal(v) => Ok((v, c)),
         ScalarOperand::Fixed(w) => c.read(s, w),
         ScalarOperand::Vbr(w) => c.read_vbr(s, w),
         ScalarOperand::Char6 => read_char6(c, s),
     }
 }
 
-// Four bytes as one number, the first one lowest.
-fn four(a: u8, b: u8, c: u8, d: u8) -> u64
-    ensures { (result ≡ a + 256 * b + 65536 * c + 16777216 * d) × (result < 4294967296) }
-{
-    (a as u64) + (b as u64) * 0x100 + (c as u64) * 0x1_0000 + (d as u64) * 0x100_0000
-}
-
-// The 32-bit word at the byte k, whose four bytes are there.
+// The 32-bit word at the byte k, whose four bytes are there, the first one lowest.
 fn word_at(s: &[u8], k: usize) -> u64
     requires { k + 4 ≤ length s.now }
     ensures { (result ≡ word s.now k) × (result < 4294967296) }
 {
-    four(s[k], s[k + 1], s[k + 2], s[k + 3])
+    u64::from(u32::from_le_bytes([s[k], s[k + 1], s[k + 2], s[k + 3]]))
 }
 
 // The header of a wrapper: the part of the input that it points to must lie in the input and hold a word.
-fn wrapped(input: &[u8]) -> Parsed
+fn wrapped(input: &[u8]) -> Result<Signature, Reason>
     ensures { result ≡ parsed (wrapped_of input.now) }
 {
     if input.len() < 20 {
-        return Parsed::Refused(INVALID_SIGNATURE);
+        return Err(Reason::InvalidSignature);
     }
     let offset = word_at(input, 8);
     let size = word_at(input, 12);
     if (input.len() as u64) < offset + size {
-        return Parsed::Refused(INVALID_SIGNATURE);
+        return Err(Reason::InvalidSignature);
     }
     if size < 4 {
-        return Parsed::Refused(INVALID_SIGNATURE);
+        return Err(Reason::InvalidSignature);
     }
-    Parsed::Signed(Signature {
+    Ok(Signature {
         magic: word_at(input, 0),
         magic2: word_at(input, offset as usize),
         version: word_at(input, 4),
@@ -180,17 +125,17 @@ fn wrapped(input: &[u8]) -> Parsed
 
 impl Signature {
     // The header numbers of an input, with a wrapper or without one.
-    pub fn parse(input: &[u8]) -> Parsed
+    pub fn parse(input: &[u8]) -> Result<Signature, Reason>
         ensures { result ≡ parsed (signature input.now) }
     {
         if input.len() < 4 {
-            return Parsed::Refused(INVALID_SIGNATURE);
+            return Err(Reason::InvalidSignature);
         }
         let magic = word_at(input, 0);
         if magic == LLVM_BITCODE_WRAPPER_MAGIC {
             return wrapped(input);
         }
-        Parsed::Signed(Signature {
+        Ok(Signature {
             magic,
             magic2: 0,
             version: 0,
@@ -215,8 +160,8 @@ impl Signature {
         ensures { result.now ≡ stream_of (signature input.now) }
     {
         match Signature::parse(input) {
-            Parsed::Refused(_) => &input[0..0],
-            Parsed::Signed(h) => {
+            Err(_) => &input[0..0],
+            Ok(h) => {
                 if h.magic == LLVM_BITCODE_WRAPPER_MAGIC {
                     return h.inner(input);
                 }
@@ -231,10 +176,7 @@ pub fn bytes_of(stream: &[u8], place: u64, length: u64) -> &[u8]
     ensures { result.now ≡ bytes_of stream.now place length }
 {
     let have = stream.len() as u64;
-    if have < length {
-        return &stream[0..0];
-    }
-    if have - length < place {
+    if have < length || have - length < place {
         return &stream[0..0];
     }
     let a = place as usize;
@@ -254,124 +196,90 @@ impl Operands {
     pub fn new(first: u64, count: u64) -> Self
         ensures { (result.at ≡ first) × (result.end ≡ min (first + count) 18446744073709551615) }
     {
-        if u64::MAX - first < count {
-            return Self {
-                at: first,
-                end: u64::MAX,
-            };
-        }
         Self {
             at: first,
-            end: first + count,
+            end: first.saturating_add(count),
         }
     }
 
     // The next operand, whatever it is.
-    pub fn u64(self, store: &[u64]) -> NextU64
-        ensures { Gives (place_of self) store.now next (of_u64 result) }
+    pub fn u64(self, store: &[u64]) -> Result<(u64, Operands), Reason>
+        ensures { Gives (place_of self) store.now next (of_next result) }
     {
         let at = self.at;
-        let end = self.end;
-        if end <= at {
-            return NextU64::Refused(END_OF_RECORD);
+        if self.end <= at {
+            return Err(Reason::EndOfRecord);
         }
         if (store.len() as u64) <= at {
-            return NextU64::Refused(END_OF_RECORD);
+            return Err(Reason::EndOfRecord);
         }
-        let i = at as usize;
-        NextU64::Value(store[i], Operands { at: at + 1, end })
+        Ok((store[at as usize], Operands { at: at + 1, ..self }))
     }
 
     // The next operand, which must be below the bound: the bound is the power of 2 that the width of the operand's type tells.
-    fn below(self, store: &[u64], bound: u64) -> NextU64
-        ensures { (w : ℕ) → bound ≡ 2 ^ w → Gives (place_of self) store.now (next_below w) (of_u64 result) }
+    fn below(self, store: &[u64], bound: u64) -> Result<(u64, Operands), Reason>
+        ensures { (w : ℕ) → bound ≡ 2 ^ w → Gives (place_of self) store.now (next_below w) (of_next result) }
     {
-        match self.u64(store) {
-            NextU64::Refused(e) => NextU64::Refused(e),
-            NextU64::Value(v, rest) => {
-                if v < bound {
-                    return NextU64::Value(v, rest);
-                }
-                NextU64::Refused(VALUE_OVERFLOW)
-            }
+        let (v, rest) = self.u64(store)?;
+        if v < bound {
+            return Ok((v, rest));
         }
+        Err(Reason::ValueOverflow)
     }
 
     // One that fits 32 bits.
-    pub fn u32(self, store: &[u64]) -> NextU32
-        ensures { Gives (place_of self) store.now (next_below 32) (of_u32 result) }
+    pub fn u32(self, store: &[u64]) -> Result<(u32, Operands), Reason>
+        ensures { Gives (place_of self) store.now (next_below 32) (of_next result) }
     {
-        match self.below(store, 0x1_0000_0000) {
-            NextU64::Refused(e) => NextU32::Refused(e),
-            NextU64::Value(v, rest) => NextU32::Value(v as u32, rest),
-        }
+        let (v, rest) = self.below(store, 0x1_0000_0000)?;
+        Ok((v as u32, rest))
     }
 
     // One that fits 16 bits.
-    pub fn u16(self, store: &[u64]) -> NextU16
-        ensures { Gives (place_of self) store.now (next_below 16) (of_u16 result) }
+    pub fn u16(self, store: &[u64]) -> Result<(u16, Operands), Reason>
+        ensures { Gives (place_of self) store.now (next_below 16) (of_next result) }
     {
-        match self.below(store, 0x1_0000) {
-            NextU64::Refused(e) => NextU16::Refused(e),
-            NextU64::Value(v, rest) => NextU16::Value(v as u16, rest),
-        }
+        let (v, rest) = self.below(store, 0x1_0000)?;
+        Ok((v as u16, rest))
     }
 
     // One that fits 8 bits.
-    pub fn u8(self, store: &[u64]) -> NextU8
-        ensures { Gives (place_of self) store.now (next_below 8) (of_u8 result) }
+    pub fn u8(self, store: &[u64]) -> Result<(u8, Operands), Reason>
+        ensures { Gives (place_of self) store.now (next_below 8) (of_next result) }
     {
-        match self.below(store, 0x100) {
-            NextU64::Refused(e) => NextU8::Refused(e),
-            NextU64::Value(v, rest) => NextU8::Value(v as u8, rest),
-        }
+        let (v, rest) = self.below(store, 0x100)?;
+        Ok((v as u8, rest))
     }
 
     // 0 is false and 1 is true.
-    pub fn bool(self, store: &[u64]) -> NextBool
-        ensures { Gives (place_of self) store.now next_bool (of_bool result) }
+    pub fn bool(self, store: &[u64]) -> Result<(bool, Operands), Reason>
+        ensures { Gives (place_of self) store.now next_bool (of_next result) }
     {
-        match self.u64(store) {
-            NextU64::Refused(e) => NextBool::Refused(e),
-            NextU64::Value(v, rest) => match v {
-                0 => NextBool::Value(false, rest),
-                1 => NextBool::Value(true, rest),
-                _ => NextBool::Refused(VALUE_OVERFLOW),
-            },
+        let (v, rest) = self.u64(store)?;
+        match v {
+            0 => Ok((false, rest)),
+            1 => Ok((true, rest)),
+            _ => Err(Reason::ValueOverflow),
         }
     }
 
     // A signed number: the lowest bit is the sign.
-    pub fn i64(self, store: &[u64]) -> NextI64
-        ensures { Gives (place_of self) store.now next_signed (of_i64 result) }
+    pub fn i64(self, store: &[u64]) -> Result<(i64, Operands), Reason>
+        ensures { Gives (place_of self) store.now next_signed (of_next result) }
     {
-        match self.u64(store) {
-            NextU64::Refused(e) => NextI64::Refused(e),
-            NextU64::Value(v, rest) => NextI64::Value(bits::signed(v), rest),
-        }
+        let (v, rest) = self.u64(store)?;
+        Ok((bits::signed(v), rest))
     }
 
     // A start and a length, which are taken both before their sum is judged.
-    pub fn range(self, store: &[u64]) -> NextRange
-        ensures { Gives (place_of self) store.now next_range (of_range result) }
+    pub fn range(self, store: &[u64]) -> Result<(Range, Operands), Reason>
+        ensures { Gives (place_of self) store.now next_range (of_next result) }
     {
-        match self.u64(store) {
-            NextU64::Refused(e) => NextRange::Refused(e),
-            NextU64::Value(start, behind) => match behind.u64(store) {
-                NextU64::Refused(e) => NextRange::Refused(e),
-                NextU64::Value(n, rest) => {
-                    if u64::MAX - start < n {
-                        return NextRange::Refused(VALUE_OVERFLOW);
-                    }
-                    NextRange::Value(
-                        Range {
-                            start,
-                            end: start + n,
-                        },
-                        rest,
-                    )
-                }
-            },
+        let (start, behind) = self.u64(store)?;
+        let (n, rest) = behind.u64(store)?;
+        match start.checked_add(n) {
+            Some(end) => Ok((Range { start, end }, rest)),
+            None => Err(Reason::ValueOverflow),
         }
     }
 }

@@ -189,6 +189,14 @@ module _ (lo n hi : ℕ) where
   pub above_range : lo ≤ n → hi < n → in_range lo hi n ≡ false
   above_range l h = simp (le-leb _ _ l, lt-leb _ _ h)
 
+  pub outside_range : (lo ≤ n → n ≤ hi → ⊥) → in_range lo hi n ≡ false
+  outside_range h = go (leb lo n) (leb n hi) refl refl
+    where
+      go : (a b : Bool) → leb lo n ≡ a → leb n hi ≡ b → (a && b) ≡ false
+      go true true i j = absurd (h (leb-true _ _ i) (leb-true _ _ j))
+      go true false i j = refl
+      go false b i j = refl
+
   pub within_range : lo ≤ n → n ≤ hi → in_range lo hi n ≡ true
   within_range l h = simp (le-leb _ _ l, le-leb _ _ h)
 
@@ -208,13 +216,9 @@ bounded t l x {v} {q} z =
 
 -- ---- a read, by its tests
 module _ (s : List ℕ) (e p n : ℕ) where
-  pub read_none : n < 1 → Off (read n) s e p vbr_overflow
+  pub read_outside : (1 ≤ n → n ≤ 64 → ⊥) → Off (read n) s e p vbr_overflow
   unfolding read
-  read_none h = fail _ (below_range _ _ _ h)
-
-  pub read_wide : 64 < n → Off (read n) s e p vbr_overflow
-  unfolding read
-  read_wide h = fail _ (above_range _ _ _ (omega arith) h)
+  read_outside h = fail _ (outside_range _ _ _ h)
 
   pub read_short : 1 ≤ n → n ≤ 64 → limit s e < p + n → Off (read n) s e p buffer_overflow
   unfolding read field_at when◌then◌else◌

@@ -4,16 +4,11 @@ use mathlib.Core.Path.{◌≡◌, refl, sym, ap, ◌∙◌}
 use mathlib.Core.List.{List}
 use mathlib.Core.Bool.{Bool}
 use lib.IntN.{ℤ}
-use Rattle.terms.specs.Refusals.{No, no}
+use Rattle.std.specs.Prelude.{Result, Ok, Err}
+use Rattle.terms.specs.Refusals.{No, no_of}
+use Rattle.terms.specs.declared.Reason.{Reason}
+use Rattle.terms.proofs.Once.{reason_of, reason_back}
 use Rattle.bits.specs.declared.Cursor.{Cursor}
-use Rattle.bits.specs.declared.Read.{Read}
-use Rattle.bits.specs.declared.Read.TheVariants.{Value, Refused}
-use Rattle.bits.specs.declared.Peek.{Peek}
-use Rattle.bits.specs.declared.Peek.TheVariants.{Seen, Unseen}
-use Rattle.bits.specs.declared.Move.{Move}
-use Rattle.bits.specs.declared.Move.TheVariants.{To, Stays}
-use Rattle.bits.specs.declared.Take.{Take}
-use Rattle.bits.specs.declared.Take.TheVariants.{Taken, Untaken}
 use Rattle.bits.specs.Reader.{Reader}
 use Rattle.bits.specs.Bits.{read, peek, align, vbr, skip, part, next_bytes, bits_left, ends_at, signed_of}
 use Rattle.bits.specs.Told.{Told, told, refuses, Gives, of_read, of_peek, of_move, Parts}
@@ -33,55 +28,58 @@ gives_once c s m (told a d) (refuses r) x y = absurd (never (sym y.why ∙ x.giv
 gives_once c s m (refuses r) (told b g) x y = absurd (never (sym x.why ∙ y.gives))
 gives_once c s m (refuses r) (refuses q) x y = let z = sym x.why ∙ y.why in cc
 
--- an answer of the code, had back from what it tells by its two constructors
-abbrev pub from_told : {A E : Type 0} → (A → Cursor → E) → (ℕ → E) → Told No A → E
-from_told some none (told a d) = some a d
-from_told some none (refuses (no k first second)) = none k
+-- an answer of the code, had back from what it tells
+abbrev pub from_told : {A E : Type 0} → (A → Cursor → E) → Told No A → Result E Reason
+from_told some (told a d) = Ok (some a d)
+from_told some (refuses x) = Err (reason_of x)
 
--- so it is told once, for every enum that can be had back
-module _ {A E : Type 0} (of : E → Told No A) (some : A → Cursor → E) (none : ℕ → E) (back : (r : E) → from_told some none (of r) ≡ r) where
-  pub told_once : (c : Cursor) (s : List ℕ) (m : Reader No A) (r r' : E) → Gives c s m (of r) → Gives c s m (of r') → r ≡ r'
-  told_once c s m r r' x y = sym (back r) ∙ ap (from_told some none) (gives_once c s m (of r) (of r') x y) ∙ back r'
+-- so it is told once, for every answer that can be had back
+module _ {A E : Type 0} (of : Result E Reason → Told No A) (some : A → Cursor → E) (back : (r : Result E Reason) → from_told some (of r) ≡ r) where
+  pub told_once : (c : Cursor) (s : List ℕ) (m : Reader No A) (r r' : Result E Reason) → Gives c s m (of r) → Gives c s m (of r') → r ≡ r'
+  told_once c s m r r' x y = sym (back r) ∙ ap (from_told some) (gives_once c s m (of r) (of r') x y) ∙ back r'
 
 -- ---- calls that tell what a reader gives
-pub read_back : (r : Read) → from_told Value Refused (of_read r) ≡ r
-read_back (Value v d) = refl
-read_back (Refused k) = refl
+pub read_back : {A : Type 0} (r : Result (A × Cursor) Reason) → from_told (λ v d. (v, d)) (of_read r) ≡ r
+read_back (Ok (v, d)) = refl
+read_back (Err r) = ap Err (reason_back r)
 
-peek_back : (c : Cursor) (r : Peek) → from_told (λ v d. Seen v) Unseen (of_peek c r) ≡ r
-peek_back c (Seen v) = refl
-peek_back c (Unseen k) = refl
+peek_back : (c : Cursor) (r : Result ℕ Reason) → from_told (λ v d. v) (of_peek c r) ≡ r
+peek_back c (Ok v) = refl
+peek_back c (Err r) = ap Err (reason_back r)
 
-move_back : (r : Move) → from_told (λ u d. To d) Stays (of_move r) ≡ r
-move_back (To d) = refl
-move_back (Stays k) = refl
+move_back : (r : Result Cursor Reason) → from_told (λ u d. d) (of_move r) ≡ r
+move_back (Ok d) = refl
+move_back (Err r) = ap Err (reason_back r)
 
 module _ (c : Cursor) (s : List ℕ) where
-  pub read_once : (n : ℕ) (r r' : Read) → Gives c s (read n) (of_read r) → Gives c s (read n) (of_read r') → r ≡ r'
-  read_once n r r' x y = told_once of_read Value Refused read_back c s (read n) r r' x y
+  pub read_once : (n : ℕ) (r r' : Result (ℕ × Cursor) Reason) → Gives c s (read n) (of_read r) → Gives c s (read n) (of_read r') → r ≡ r'
+  read_once n r r' x y = told_once of_read (λ v d. (v, d)) read_back c s (read n) r r' x y
 
-  pub read_vbr_once : (w : ℕ) (r r' : Read) → Gives c s (vbr w) (of_read r) → Gives c s (vbr w) (of_read r') → r ≡ r'
-  read_vbr_once w r r' x y = told_once of_read Value Refused read_back c s (vbr w) r r' x y
+  pub read_vbr_once : (w : ℕ) (r r' : Result (ℕ × Cursor) Reason) → Gives c s (vbr w) (of_read r) → Gives c s (vbr w) (of_read r') → r ≡ r'
+  read_vbr_once w r r' x y = told_once of_read (λ v d. (v, d)) read_back c s (vbr w) r r' x y
 
-  pub peek_once : (n : ℕ) (r r' : Peek) → Gives c s (peek n) (of_peek c r) → Gives c s (peek n) (of_peek c r') → r ≡ r'
-  peek_once n r r' x y = told_once (of_peek c) (λ v d. Seen v) Unseen (peek_back c) c s (peek n) r r' x y
+  pub peek_once : (n : ℕ) (r r' : Result ℕ Reason) → Gives c s (peek n) (of_peek c r) → Gives c s (peek n) (of_peek c r') → r ≡ r'
+  peek_once n r r' x y = told_once (of_peek c) (λ v d. v) (peek_back c) c s (peek n) r r' x y
 
-  pub align32_once : (r r' : Move) → Gives c s align (of_move r) → Gives c s align (of_move r') → r ≡ r'
-  align32_once r r' x y = told_once of_move (λ u d. To d) Stays move_back c s align r r' x y
+  pub align32_once : (r r' : Result Cursor Reason) → Gives c s align (of_move r) → Gives c s align (of_move r') → r ≡ r'
+  align32_once r r' x y = told_once of_move (λ u d. d) move_back c s align r r' x y
 
-  pub skip_bytes_once : (n : ℕ) (r r' : Move) → Gives c s (skip n) (of_move r) → Gives c s (skip n) (of_move r') → r ≡ r'
-  skip_bytes_once n r r' x y = told_once of_move (λ u d. To d) Stays move_back c s (skip n) r r' x y
+  pub skip_bytes_once : (n : ℕ) (r r' : Result Cursor Reason) → Gives c s (skip n) (of_move r) → Gives c s (skip n) (of_move r') → r ≡ r'
+  skip_bytes_once n r r' x y = told_once of_move (λ u d. d) move_back c s (skip n) r r' x y
 
   -- the part's own cursor is told by its end, and begins where c stands
-  pub take_slice_once : (n : ℕ) (r r' : Take) → Parts c s n r → Parts c s n r' → r ≡ r'
-  take_slice_once n (Taken i d) (Taken j g) x y =
+  pub take_slice_once : (n : ℕ) (r r' : Result (Cursor × Cursor) Reason) → Parts c s n r → Parts c s n r' → r ≡ r'
+  take_slice_once n (Ok (i, d)) (Ok (j, g)) x y =
       let z : ◌≡◌ {A = Told No ℕ} (told i.end d) (told j.end g) = gives_once c s (part n) _ _ x.0 y.0 in
       let e : i.end ≡ j.end = cc in
       let p : i ≡ j = cursor_same i j (x.1 ∙ sym y.1) e in
       cc
-  take_slice_once n (Taken i d) (Untaken k) x y = absurd (never (sym y.why ∙ x.0.gives))
-  take_slice_once n (Untaken k) (Taken j g) x y = absurd (never (sym x.why ∙ y.0.gives))
-  take_slice_once n (Untaken k) (Untaken l) x y = let z = gives_once c s (part n) (refuses _) (refuses _) x y in cc
+  take_slice_once n (Ok (i, d)) (Err r) x y = absurd (never (sym y.why ∙ x.0.gives))
+  take_slice_once n (Err r) (Ok (j, g)) x y = absurd (never (sym x.why ∙ y.0.gives))
+  take_slice_once n (Err r) (Err q) x y =
+      let z = gives_once c s (part n) (refuses (no_of r)) (refuses (no_of q)) x y in
+      let e : no_of r ≡ no_of q = cc in
+      ap Err (sym (reason_back r) ∙ ap reason_of e ∙ reason_back q)
 
 pub new_once : (end : ℕ) (r r' : Cursor) → (r.at ≡ 0) × (r.end ≡ end) → (r'.at ≡ 0) × (r'.end ≡ end) → r ≡ r'
 new_once end r r' x y = cursor_same r r' (x.0 ∙ sym y.0) (x.1 ∙ sym y.1)

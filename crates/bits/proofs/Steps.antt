@@ -4,6 +4,10 @@ use mathlib.Core.Path.{◌≡◌, refl, ap, ◌∙◌, subst}
 use mathlib.Core.List.{List}
 use mathlib.Core.Bool.{Bool, true, false}
 use native.Mathlib.Omega.{arith}
+use Rattle.std.specs.Prelude.{Result, Err, IsErrAnd}
+use Rattle.std.proofs.lemmas.Result.{err_from_is_err_and}
+use Rattle.terms.specs.Refusals.{No}
+use Rattle.terms.specs.declared.Reason.{Reason}
 use Rattle.bits.specs.declared.Cursor.{Cursor}
 use Rattle.bits.specs.Reader.{Answer, got, refused, Reader, onward, ◌>>=◌, require, when◌then◌else◌, here, give}
 use Rattle.bits.specs.Told.{At, Off, Told, told, refuses, Gives}
@@ -144,6 +148,14 @@ so m f s e p i = rw i
 pub so_off : {R A B : Type 0} (m : Reader R A) (f : A → Reader R B) (s : List ℕ) (e p : ℕ) {r : R} → m s e p ≡ refused r → (m >>= f) s e p ≡ refused r
 unfolding ◌>>=◌ onward
 so_off m f s e p i = rw i
+
+-- the exit of a `?`: what it hands on is the callee's refusal
+pub handed : {A E : Type 0} (P : Result A E → Type 0) (r : Result A E) {e : E} → IsErrAnd r (λ x. x ≡ e) → P (Err e) → P r
+handed P r x y = let p = err_from_is_err_and r x in rw (p.1, p.2) y
+
+pub handed_on : {A E : Type 0} (of : Result E Reason → Told No A) (c : Cursor) (s : List ℕ) (m : Reader No A) (r : Result E Reason) (e : Reason)
+    → IsErrAnd r (λ x. x ≡ e) → Gives c s m (of (Err e)) → Gives c s m (of r)
+handed_on of c s m r e x y = handed (λ z. Gives c s m (of z)) r x y
 
 -- a do block that ends in a call: what the call tells is what the block tells
 pub on_told : {R A B : Type 0} {s : List ℕ} {c d : Cursor} {m : Reader R A} (f : A → Reader R B) (t : Told R B) {a : A}

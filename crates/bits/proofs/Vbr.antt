@@ -13,7 +13,7 @@ use Rattle.bits.specs.declared.Cursor.{Cursor}
 use Rattle.bits.specs.Reader.{got, onward, ◌>>=◌, give, require, when◌then◌else◌, turns}
 use Rattle.bits.specs.Bits.{limit, read, chunks, vbr}
 use Rattle.bits.specs.Told.{At, Off}
-use Rattle.bits.proofs.Laws.{Reads, read_gives, limit_in, below_range, above_range, within_range}
+use Rattle.bits.proofs.Laws.{Reads, read_gives, limit_in, outside_range, within_range}
 use Rattle.bits.proofs.Steps.{fail}
 
 -- a shift within a word keeps the digits that stay in it
@@ -53,13 +53,9 @@ pub record Going (s : List ℕ) (w : ℕ) (c₀ c : Cursor) (shift sum : ℕ) : 
   pub rest : chunks (suc fuel) w shift sum s c.end c.at ≡ vbr w s c₀.end c₀.at
 
 module _ (s : List ℕ) (e p w : ℕ) where
-  pub vbr_none : w < 1 → Off (vbr w) s e p vbr_overflow
+  pub vbr_outside : (1 ≤ w → w ≤ 32 → ⊥) → Off (vbr w) s e p vbr_overflow
   unfolding vbr
-  vbr_none h = fail _ (below_range _ _ _ h)
-
-  pub vbr_wide : 32 < w → Off (vbr w) s e p vbr_overflow
-  unfolding vbr
-  vbr_wide h = fail _ (above_range _ _ _ (omega arith) h)
+  vbr_outside h = fail _ (outside_range _ _ _ h)
 
 pub going_start : (s : List ℕ) (w : ℕ) (c : Cursor) → 1 ≤ w → w ≤ 32 → Going s w c c 0 0
 unfolding vbr ◌>>=◌ onward require turns

@@ -2,12 +2,12 @@
 // Each call is total: for any place, any end and any slice it gives its answer or a numbered refusal, and it asks nothing of its caller.
 #![tactic(auto)]
 
-ghost use Rattle.std.specs.Prelude.{◌≡◌, ◌+◌, ◌*◌, ◌/◌, ◌%◌, ◌^◌, ◌≤◌, ◌<◌, min, length, get_or};
+ghost use Rattle.std.specs.Prelude.{◌≡◌, ◌+◌, ◌*◌, ◌/◌, ◌%◌, ◌^◌, ◌≤◌, ◌<◌, length, get_or};
 ghost use Rattle.bits.specs.Word.{word64};
 ghost use Rattle.bits.specs.Bits.{field, limit, read, peek, align, vbr, skip, next_bytes, bits_left, ends_at, signed_of};
 ghost use Rattle.bits.specs.Told.{Gives, of_read, of_peek, of_move, Parts};
 
-use terms::{ALIGNMENT, BUFFER_OVERFLOW, MAX_INPUT, VBR_OVERFLOW};
+use terms::{MAX_INPUT, Reason};
 
 // A place in a stream, in bits, and the end of what may be read, in bytes.
 #[derive(Clone, Copy)]
@@ -16,75 +16,19 @@ pub struct Cursor {
     pub end: u64,
 }
 
-// A number and the cursor behind it, or the refusal's number.
-#[derive(Clone, Copy)]
-pub enum Read {
-    Value(u64, Cursor),
-    Refused(u64),
-}
-
-// A number that stays unread.
-#[derive(Clone, Copy)]
-pub enum Peek {
-    Seen(u64),
-    Unseen(u64),
-}
-
-// The moved cursor.
-#[derive(Clone, Copy)]
-pub enum Move {
-    To(Cursor),
-    Stays(u64),
-}
-
-// A cursor for a part of the stream, and the one behind that part.
-#[derive(Clone, Copy)]
-pub enum Take {
-    Taken(Cursor, Cursor),
-    Untaken(u64),
-}
-
-// The lesser of two numbers.
-fn least(a: u64, b: u64) -> u64
-    ensures { result ≡ min a b }
-{
-    if a < b { a } else { b }
-}
-
-// Eight bytes as one number, the first one lowest: LLVM makes one load of them.
-fn eight(a: u8, b: u8, c: u8, d: u8, e: u8, f: u8, g: u8, h: u8) -> u64
-    ensures { result ≡ a + 256 * (b + 256 * (c + 256 * (d + 256 * (e + 256 * (f + 256 * (g + 256 * h)))))) }
-{
-    (a as u64)
-        + (b as u64) * 0x100
-        + (c as u64) * 0x1_0000
-        + (d as u64) * 0x100_0000
-        + (e as u64) * 0x1_0000_0000
-        + (f as u64) * 0x100_0000_0000
-        + (g as u64) * 0x1_0000_0000_0000
-        + (h as u64) * 0x100_0000_0000_0000
-}
-
-// A byte as a word.
-fn wide(x: u8) -> u64
-    ensures { (result ≡ x) × (result < 256) }
-{
-    x as u64
-}
-
 // The byte at i, and 0 past the end.
 fn byte_at(s: &[u8], i: usize) -> u8
     ensures { result ≡ get_or s.now i 0 }
 {
-    if i < s.len() { s[i] } else { 0 }
+    s.get(i).copied().unwrap_or(0)
 }
 
-// The eight bytes from b on, which are there.
+// The eight bytes from b on, which are there, as one number, the first one lowest: LLVM makes one load of them.
 fn eight_there(s: &[u8], b: usize) -> u64
     requires { b + 8 ≤ length s.now }
     ensures { result ≡ word64 s.now b }
 {
-    eight(
+    u64::from_le_bytes([
         s[b],
         s[b + 1],
         s[b + 2],
@@ -93,7 +37,7 @@ fn eight_there(s: &[u8], b: usize) -> u64
         s[b + 5],
         s[b + 6],
         s[b + 7],
-    )
+    ])
 }
 
 // The n low bits of w.
@@ -121,7 +65,7 @@ fn field_nine(s: &[u8], p: u64, n: u64) -> u64
     let k = p % 8;
     let m = 64 - k;
     let x = eight_there(s, b) >> k;
-    let y = low(wide(s[b + 8]), n - m);
+    let y = low(u64::from(s[b + 8]), n - m);
     x + (y << m)
 }
 
@@ -136,7 +80,7 @@ fn field_far(s: &[u8], p: u64, n: u64) -> u64
     if 64 < k + n && b + 9 <= s.len() {
         return field_nine(s, p, n);
     }
-    let x = wide(byte_at(s, b)) >> k;
+    let x = u64::from(byte_at(s, b)) >> k;
     if k + n <= 8 {
         return low(x, n);
     }
@@ -176,7 +120,7 @@ impl Cursor {
     fn length(self, s: &[u8]) -> u64
         ensures { (8 * result ≡ limit s.now self.end) × (result ≤ 2 ^ 24) × (result ≤ length s.now) }
     {
-        least(self.end, least(s.len() as u64, MAX_INPUT))
+        self.end.min((s.len() as u64).min(MAX_INPUT))
     }
 
     // The same in bits.
@@ -187,107 +131,96 @@ impl Cursor {
     }
 
     // The next n bits, 1 to 64 of them.
-    pub fn read(self, s: &[u8], n: u64) -> Read
+    pub fn read(self, s: &[u8], n: u64) -> Result<(u64, Cursor), Reason>
         ensures { Gives self s.now (read n) (of_read result) }
     {
-        if n < 1 {
-            return Read::Refused(VBR_OVERFLOW);
-        }
-        if 64 < n {
-            return Read::Refused(VBR_OVERFLOW);
+        if n < 1 || 64 < n {
+            return Err(Reason::VbrOverflow);
         }
         let at = self.at;
-        let end = self.end;
         let bits = self.bits(s);
         if bits < n {
-            return Read::Refused(BUFFER_OVERFLOW);
+            return Err(Reason::BufferOverflow);
         }
         if bits - n < at {
-            return Read::Refused(BUFFER_OVERFLOW);
+            return Err(Reason::BufferOverflow);
         }
-        let v = field_at(s, at, n);
-        Read::Value(v, Cursor { at: at + n, end })
+        Ok((field_at(s, at, n), Cursor { at: at + n, ..self }))
     }
 
     // The next n bits, which stay unread.
-    pub fn peek(self, s: &[u8], n: u64) -> Peek
+    pub fn peek(self, s: &[u8], n: u64) -> Result<u64, Reason>
         ensures { Gives self s.now (peek n) (of_peek self result) }
     {
         match self.read(s, n) {
-            Read::Value(v, _) => Peek::Seen(v),
-            Read::Refused(_) => Peek::Unseen(BUFFER_OVERFLOW),
+            Ok((v, _)) => Ok(v),
+            Err(_) => Err(Reason::BufferOverflow),
         }
     }
 
     // To the next multiple of 32 bits; no move where the place is one.
-    pub fn align32(self, s: &[u8]) -> Move
+    pub fn align32(self, s: &[u8]) -> Result<Cursor, Reason>
         ensures { Gives self s.now align (of_move result) }
     {
         let at = self.at;
-        let end = self.end;
         let bits = self.bits(s);
         if bits < at {
-            return Move::Stays(BUFFER_OVERFLOW);
+            return Err(Reason::BufferOverflow);
         }
         let next = (at + 31) / 32 * 32;
         if bits < next {
-            return Move::Stays(BUFFER_OVERFLOW);
+            return Err(Reason::BufferOverflow);
         }
-        Move::To(Cursor { at: next, end })
+        Ok(Cursor { at: next, ..self })
     }
 
     // A VBR number of chunks of w bits, 1 to 32 of them: `unit` is a chunk's top bit, which says that another chunk follows.
-    pub fn read_vbr(self, s: &[u8], w: u64) -> Read
+    pub fn read_vbr(self, s: &[u8], w: u64) -> Result<(u64, Cursor), Reason>
         ensures { Gives self s.now (vbr w) (of_read result) }
     {
-        if w < 1 {
-            return Read::Refused(VBR_OVERFLOW);
-        }
-        if 32 < w {
-            return Read::Refused(VBR_OVERFLOW);
+        if w < 1 || 32 < w {
+            return Err(Reason::VbrOverflow);
         }
         let unit = power(w - 1);
         let mut c = self;
         let mut shift: u64 = 0;
         let mut sum: u64 = 0;
-        let answer = loop {
+        loop {
             match c.read(s, w) {
-                Read::Refused(e) => break Read::Refused(e),
-                Read::Value(v, d) => {
+                Err(e) => break Err(e),
+                Ok((v, d)) => {
                     if 64 <= shift {
-                        break Read::Refused(VBR_OVERFLOW);
+                        break Err(Reason::VbrOverflow);
                     }
-                    sum = sum + ((v % unit) << shift);
+                    sum += (v % unit) << shift;
                     if v < unit {
-                        break Read::Value(sum, d);
+                        break Ok((sum, d));
                     }
-                    shift = shift + (w - 1);
+                    shift += w - 1;
                     c = d;
                 }
             }
-        };
-        answer
+        }
     }
 
     // Over n bytes, from a byte's first bit on.
-    pub fn skip_bytes(self, s: &[u8], n: u64) -> Move
+    pub fn skip_bytes(self, s: &[u8], n: u64) -> Result<Cursor, Reason>
         ensures { Gives self s.now (skip n) (of_move result) }
     {
         let at = self.at;
-        let end = self.end;
         if at % 8 != 0 {
-            return Move::Stays(ALIGNMENT);
+            return Err(Reason::Alignment);
         }
         let length = self.length(s);
         if length < n {
-            return Move::Stays(BUFFER_OVERFLOW);
+            return Err(Reason::BufferOverflow);
         }
         if length - n < at / 8 {
-            return Move::Stays(BUFFER_OVERFLOW);
+            return Err(Reason::BufferOverflow);
         }
-        Move::To(Cursor {
+        Ok(Cursor {
             at: at + 8 * n,
-            end,
+            ..self
         })
     }
 
@@ -297,8 +230,8 @@ impl Cursor {
     {
         let from = self.at / 8;
         match self.skip_bytes(s, n) {
-            Move::Stays(_) => &s[0..0],
-            Move::To(_) => {
+            Err(_) => &s[0..0],
+            Ok(_) => {
                 let a = from as usize;
                 let e = (from + n) as usize;
                 &s[a..e]
@@ -307,41 +240,33 @@ impl Cursor {
     }
 
     // A cursor for the next n bytes, from a 32-bit boundary on, and the one behind them. Places stay those of the whole stream.
-    pub fn take_slice(self, s: &[u8], n: u64) -> Take
+    pub fn take_slice(self, s: &[u8], n: u64) -> Result<(Cursor, Cursor), Reason>
         ensures { Parts self s.now n result }
     {
         let at = self.at;
         if at % 32 != 0 {
-            return Take::Untaken(ALIGNMENT);
+            return Err(Reason::Alignment);
         }
-        match self.skip_bytes(s, n) {
-            Move::Stays(e) => Take::Untaken(e),
-            Move::To(d) => Take::Taken(
-                Cursor {
-                    at,
-                    end: at / 8 + n,
-                },
-                d,
-            ),
-        }
+        let behind = self.skip_bytes(s, n)?;
+        let part = Cursor {
+            at,
+            end: at / 8 + n,
+        };
+        Ok((part, behind))
     }
 
     // How many bits are left.
     pub fn unconsumed_bit_len(self, s: &[u8]) -> u64
         ensures { result ≡ bits_left s.now self.end self.at }
     {
-        let at = self.at;
-        let bits = self.bits(s);
-        if at < bits { bits - at } else { 0 }
+        self.bits(s).saturating_sub(self.at)
     }
 
     // Whether no bits are left.
     pub fn is_at_end(self, s: &[u8]) -> bool
         ensures { result ≡ ends_at s.now self.end self.at }
     {
-        let at = self.at;
-        let bits = self.bits(s);
-        bits <= at
+        self.bits(s) <= self.at
     }
 }
 
@@ -354,7 +279,7 @@ pub fn signed(v: u64) -> i64
         return half;
     }
     if v == 1 {
-        return -9223372036854775808;
+        return i64::MIN;
     }
     -half
 }

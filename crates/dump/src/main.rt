@@ -6,8 +6,7 @@ ghost use Rattle.std.specs.Prelude.{◌≡◌};
 ghost use Rattle.text.specs.Text.{Puts};
 ghost use Rattle.dump.specs.Dumped.{too_long, dumped};
 
-use bitcode::Signature;
-use terms::INPUT_TOO_LONG;
+use terms::Reason;
 use text::feed::{STDIN_FILENO, STDOUT_FILENO, zeros};
 use text::front;
 use text::page::Page;
@@ -28,22 +27,7 @@ const ROOM: usize = 524_288;
 fn too_long() -> Walked
     ensures { result ≡ too_long }
 {
-    Walked {
-        status: INPUT_TOO_LONG,
-        place: 0,
-        first: 0,
-        second: 0,
-        header: Signature {
-            magic: 0,
-            magic2: 0,
-            version: 0,
-            offset: 0,
-            size: 0,
-            cpu: 0,
-        },
-        events: 0,
-        operands: 0,
-    }
+    Walked::from(Err(Reason::InputTooLong.at(0)))
 }
 
 // The dump of an input, into a buffer; tells how much of the buffer is in use.
@@ -58,7 +42,7 @@ fn put_input(input: &[u8], out: &mut [u8]) -> usize
     let none = [0u64; 1];
     let mut events = [0u64; STORE];
     let mut operands = [0u64; STORE];
-    let w = walk(input, &none[0..0], &mut events, &mut operands);
+    let w = Walked::from(walk(input, &none[0..0], &mut events, &mut operands));
     page.dump(w, &events, &operands);
     page.fill
 }

@@ -1,6 +1,7 @@
 // What a call answered, and that as text.
 use bitcode::{Range, Signature};
 use bits::Cursor;
+use terms::Reason;
 use text::page::Page;
 
 #[derive(Clone, Copy)]
@@ -64,10 +65,10 @@ impl Answer<'_> {
     }
 }
 
-// What a call answered, or the number of its refusal.
-pub fn put_answer(page: &mut Page<'_>, answer: Result<Answer<'_>, u64>) {
+// What a call answered, or the number of why it is refused.
+pub fn put_answer(page: &mut Page<'_>, answer: Result<Answer<'_>, Reason>) {
     match answer {
         Ok(answer) => answer.put(page),
-        Err(number) => page.named(b"refused ", number),
+        Err(reason) => page.named(b"refused ", reason.number()),
     }
 }

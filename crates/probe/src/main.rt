@@ -17,7 +17,6 @@ mod answer;
 mod ask;
 mod call;
 mod scan;
-mod told;
 
 use answer::put_answer;
 use ask::answer_to;

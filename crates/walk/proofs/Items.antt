@@ -1,4 +1,5 @@
 -- One law for each case of an item: what the definition answers where the code stands. Assumes nothing.
+use Rattle.std.specs.Prelude.{Result, Ok, Err}
 use mathlib.Core.Path.{◌≡◌, refl, sym, ap, subst, ◌∙◌}
 use mathlib.Core.Bool.{true, false}
 use mathlib.Core.List.{List, [], ◌∷◌, ◌++◌, append-nil}
@@ -8,7 +9,9 @@ use native.Mathlib.Omega.{arith}
 use lib.ListN.{length, take, set}
 use borrow.Author.Tests.{lt-ltb, le-ltb, le-leb, lt-leb, ne_eqb}
 use Rattle.terms.specs.Limits.{event_size}
-use Rattle.terms.specs.Refusals.{No, no, Refusal, refusal}
+use Rattle.terms.specs.Refusals.{No, no, Refusal, refusal, at_bit}
+use Rattle.terms.specs.declared.Reason.{Reason}
+use Rattle.terms.specs.declared.Refused.{Refused}
 use Rattle.bits.specs.Reader.{Reader, Answer, got, refused, onward, ◌>>=◌, give, stop, require, when◌then◌else◌, here, turns, at_place, placed}
 use Rattle.bits.specs.Bits.{limit, align, ends_at}
 use Rattle.bits.specs.Told.{Off}
@@ -22,13 +25,23 @@ use Rattle.walk.specs.Record.{Record, record_list, unabbreviated, rest}
 use Rattle.walk.specs.Piece.{Head, head, Event, enter, leave, record_event, record_of, skipping, Piece, the_record, definition, blockinfo, skipped, events, counted, store, added, State, after}
 use Rattle.walk.specs.Item.{Context, Begun, heads, records, heading, used, begun, begin, Opening, ended, defined, recorded, headed, event_room, leave_room, fits, finish, at_end, opening, within, Pass, body_of, complete, nested}
 use Rattle.walk.specs.Walk.{entry, entries, those, listed}
-use Rattle.walk.specs.Promises.{marks, context, state_of, Sits, Room, closed, Behind, completed, numbered, headed_at, Went, Entered, Ended, Does, plain, abbreviated, head_fits, Reads, Tells}
+use Rattle.walk.specs.Promises.{marks, context, state_of, Sits, Room, closed, Behind, completed, numbered, headed_at, Went, Entered, Ended, Does, plain, abbreviated, head_fits, Reads, Tells, DoesIn, placed_at}
 use Rattle.walk.specs.declared.Marks.{Marks}
 use Rattle.walk.specs.declared.Frame.{Frame}
 use Rattle.walk.specs.declared.RecordRead.{RecordRead}
 use Rattle.walk.specs.declared.Step.{Step}
 use Rattle.walk.specs.declared.Step.TheVariants as S
 use Rattle.walk.proofs.Visits.{room_lengths}
+
+-- ---- a part's answer, had back from the one that has the item's place
+pub placed_ok : {A : Type 0} (at : ℕ) (r : Result A Reason) {a : A} → placed_at at r ≡ Ok a → r ≡ Ok a
+placed_ok at (Ok a) i = cc
+placed_ok at (Err why) i = absurd (let z : ◌≡◌ {A = ℕ} 0 1 = cc in omega arith)
+
+pub placed_err : {A : Type 0} (at : ℕ) (r : Result A Reason) {x : Refused} → placed_at at r ≡ Err x
+    → (why : Reason) × (r ≡ Err why) × (record { reason = why; place = at } ≡ x)
+placed_err at (Ok a) i = absurd (let z : ◌≡◌ {A = ℕ} 0 1 = cc in omega arith)
+placed_err at (Err why) i = (why, refl, (cc))
 
 -- ---- a whole item, by its opening
 module _ (s skip : List ℕ) (f : Frame) (st : State) where
@@ -87,9 +100,9 @@ module _ (s skip : List ℕ) (f : Frame) (st : State) where
 -- ---- an item, by its number
 module _ (c : Context) (st : State) (from : ℕ) (s : List ℕ) (e q : ℕ) where
   -- 0
-  pub leave_off : {n x y : ℕ} → align s e q ≡ refused (no n x y) → numbered c st from 0 s e q ≡ refused (refusal n from x y)
+  pub leave_off : {x : No} → align s e q ≡ refused x → numbered c st from 0 s e q ≡ refused (at_bit from x)
   unfolding begun when◌then◌else◌ ◌>>=◌ onward placed at_place
-  leave_off z = rw z
+  leave_off {x = no n u v} z = rw z
 
   pub leave_top : {r : ℕ} → align s e q ≡ got tt r → c.top ≡ true → numbered c st from 0 s e q ≡ got ended r
   unfolding begun finish when◌then◌else◌ ◌>>=◌ onward placed at_place leave_room give
@@ -134,14 +147,14 @@ module _ (c : Context) (st : State) (from : ℕ) (s : List ℕ) (e q : ℕ) wher
   unfolding ◌>>=◌ onward placed at_place give
   head_done z = head_is ∙ rw z
 
-  pub head_off : {n x y : ℕ} → head_fits s e q ≡ refused (no n x y) → numbered c st from 1 s e q ≡ refused (refusal n from x y)
+  pub head_off : {x : No} → head_fits s e q ≡ refused x → numbered c st from 1 s e q ≡ refused (at_bit from x)
   unfolding ◌>>=◌ onward placed at_place
-  head_off z = head_is ∙ rw z
+  head_off {x = no n u v} z = head_is ∙ rw z
 
   -- 2
-  pub define_off : {n x y : ℕ} → define s e q ≡ refused (no n x y) → numbered c st from 2 s e q ≡ refused (refusal n from x y)
+  pub define_off : {x : No} → define s e q ≡ refused x → numbered c st from 2 s e q ≡ refused (at_bit from x)
   unfolding begun when◌then◌else◌ ◌>>=◌ onward placed at_place
-  define_off z = rw z
+  define_off {x = no n u v} z = rw z
 
   pub define_full : {a : Abbrev} {r : ℕ} → define s e q ≡ got a r → 32 ≤ st.locals → numbered c st from 2 s e q ≡ refused (refusal 17 from 0 0)
   unfolding begun finish when◌then◌else◌ ◌>>=◌ onward placed at_place require give
@@ -166,9 +179,9 @@ module _ (c : Context) (st : State) (from : ℕ) (s : List ℕ) (e q : ℕ) wher
       (two_parts (used c st n) records (rest st.left) (λ r. event_room from st >>= (λ u. give (recorded from c.number st.fill r))) (λ a p. refl))
 
   module _ (x : Reader No Record) where
-    pub recording_off : {n u v : ℕ} → x s e q ≡ refused (no n u v) → recording x s e q ≡ refused (refusal n from u v)
+    pub recording_off : {w : No} → x s e q ≡ refused w → recording x s e q ≡ refused (at_bit from w)
     unfolding recording ◌>>=◌ onward placed at_place
-    recording_off z = rw z
+    recording_off {w = no n u v} z = rw z
 
     pub recording_full : {r : Record} {p : ℕ} → x s e q ≡ got r p → st.room ≡ 0 → recording x s e q ≡ refused (refusal 18 from 0 0)
     unfolding recording ◌>>=◌ onward placed at_place event_room require
@@ -199,9 +212,9 @@ module _ (c : Context) (st : State) (s : List ℕ) (e p : ℕ) where
   unfolding opening here at_end ends_at ◌>>=◌ onward when◌then◌else◌ require give
   open_missing h t = rw (le-leb (limit s e) p h, t)
 
-  pub open_off : {n x y : ℕ} → p < limit s e → number_of c.wide s e p ≡ refused (no n x y) → opening c st s e p ≡ refused (refusal n p x y)
+  pub open_off : {x : No} → p < limit s e → number_of c.wide s e p ≡ refused x → opening c st s e p ≡ refused (at_bit p x)
   unfolding opening here at_end ends_at begin ◌>>=◌ onward when◌then◌else◌ placed at_place
-  open_off h z = rw (lt-leb (limit s e) p h, z)
+  open_off {x = no n u v} h z = rw (lt-leb (limit s e) p h, z)
 
   pub open_number : {n q : ℕ} → p < limit s e → number_of c.wide s e p ≡ got n q → opening c st s e p ≡ numbered c st p n s e q
   unfolding opening here at_end ends_at begin ◌>>=◌ onward when◌then◌else◌ placed at_place
@@ -377,7 +390,7 @@ module _ (s skip : List ℕ) (f : Frame) (m : Marks) (own : List ℕ) (t : Table
 
   -- ---- a record
   module _ (d : Cursor) (mm : Reader No Record) {x : Answer Refusal Opening} (is : x ≡ recording (context f) St m.at s f.end d.at mm s f.end d.at) (behind : Behind f d) where
-    pub told_off : {n y z : ℕ} → Off mm s d.end d.at (no n y z) → completed s skip f St x ≡ refused (refusal n m.at y z)
+    pub told_off : {w : No} → Off mm s d.end d.at w → completed s skip f St x ≡ refused (at_bit m.at w)
     told_off o = let o₂ = rw behind at o in completed_off s skip f St (is ∙ recording_off (context f) St m.at s f.end d.at mm o₂.why)
 
     module _ (ev' ops' : List ℕ) (r : RecordRead) (g : Cursor) (q : Reads d s mm m.operands ops ops' r g) (p : length ev' ≡ length ev) where
@@ -419,16 +432,16 @@ module _ (s skip : List ℕ) (f : Frame) (m : Marks) (own : List ℕ) (t : Table
             sits = record { events = omega arith; operands = q.most; shared = sits.shared; base = sits.base; local = sits.local };
           }
 
-      pub told_record : length ops' ≡ length ops → (u : Step) → Tells f m r g.at ev ev' u → Does s skip f m own t t ev ev' ops ops' x u
-      told_record same (S.Go m') (i, long, told) = rw i (record_went long told same)
-      told_record same (S.No b) (i, h) =
+      pub told_record : length ops' ≡ length ops → (u : Result Step Reason) → Tells f m r g.at ev ev' u → DoesIn s skip f m own t t ev ev' ops ops' x u
+      told_record same (Ok (S.Go m')) (i, long, told) = rw i (record_went long told same)
+      told_record same (Ok (S.Into m' h)) z = absurd z
+      told_record same (Ok (S.End m')) z = absurd z
+      told_record same (Err why) (i, h) =
           let y = rw behind at q.gives in
-          completed_off s skip f St (is ∙ recording_full (context f) St m.at s f.end d.at mm y.gives (omega arith)) ∙ ap refused (sym i)
-      told_record same (S.Into m' b w n) z = absurd z
-      told_record same (S.End m') z = absurd z
+          rw i (completed_off s skip f St (is ∙ recording_full (context f) St m.at s f.end d.at mm y.gives (omega arith)))
 
 -- the same step, of an opening that answers the same
-pub does_as : (s skip : List ℕ) (f : Frame) (m : Marks) (own : List ℕ) (t t' : Tables) (ev ev' ops ops' : List ℕ) (r : Step) {x y : Answer Refusal Opening} → y ≡ x
+pub does_as : (s skip : List ℕ) (f : Frame) (m : Marks) (own : List ℕ) (t t' : Tables) (ev ev' ops ops' : List ℕ) (r : Result Step Refused) {x y : Answer Refusal Opening} → y ≡ x
     → Does s skip f m own t t' ev ev' ops ops' x r → Does s skip f m own t t' ev ev' ops ops' y r
 does_as s skip f m own t t' ev ev' ops ops' r e h = subst (λ z. Does s skip f m own t t' ev ev' ops ops' z r) (sym e) h
 

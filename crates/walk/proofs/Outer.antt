@@ -1,6 +1,9 @@
 -- The walk's outside: the skip list, the zeros behind what a store holds, the top level, and the whole call. Assumes nothing.
+use Rattle.std.specs.Prelude.{Result, Ok, Err}
 use mathlib.Core.Path.{◌≡◌, refl, sym, ap, ap₂, ◌∙◌}
-use mathlib.Core.Bool.{true, false}
+use mathlib.Core.Bool.{Bool, true, false}
+use Rattle.std.specs.Prelude.{◌||◌, eqb}
+use Rattle.std.specs.List.{list_any}
 use mathlib.Core.List.{List, [], ◌∷◌, ◌++◌, append_assoc, append-nil}
 use Prim.Native.Nat.{ℕ, ◌+◌, ◌-◌, ◌*◌, ◌/◌, ◌≤◌, ◌<◌}
 use native.Mathlib.Numerals.{add-one}
@@ -10,28 +13,36 @@ use lib.ListN.{length, take, drop, set, get_or, replicate, length-replicate, rep
 use lib.Seq.{length-take-le, take-suc-set, drop-cons}
 use borrow.Author.Tests.{lt-ltb, le-ltb, eq-eqb, ne_eqb}
 use Rattle.terms.specs.Limits.{max_input, event_size}
-use Rattle.terms.specs.Refusals.{Refusal, refusal}
+use Rattle.terms.specs.Refusals.{No, no, Refusal, refusal, at_bit, no_of, refusal_of, number_of, first_of, second_of}
+use Rattle.terms.specs.declared.Reason.{Reason}
+use Rattle.terms.specs.declared.Refused.{Refused}
 use Rattle.bits.specs.Reader.{Answer, refused, when◌then◌else◌, turns}
 use Rattle.bitcode.specs.declared.Signature.{Signature}
-use Rattle.bitcode.specs.declared.Parsed.TheVariants as P
 use Rattle.bitcode.specs.Header.{Opened, unsigned, opened, signature, parsed, stream}
 use Rattle.abbrev.specs.BlockInfo.{shared_for}
 use Rattle.abbrev.specs.Tables.{slot_count, Tables, tables, shareds, Whole, NothingHeld, row_count}
 use Rattle.abbrev.specs.declared.Abbreviations.{Abbreviations}
 use Rattle.walk.specs.Piece.{Pieces, all_events, all_store}
 use Rattle.walk.specs.Item.{items, nested}
-use Rattle.walk.specs.Walk.{top_level, start, top_items, Outcome, denied, accepted, outcome, walk_stream, walk_by, listed, those, walk, entries, filled, result, walked}
-use Rattle.walk.specs.Promises.{answer, refusal_of, marks, closed, body_answer, Is, Streamed, Streams, cleared, Denies, Accepts}
+use Rattle.walk.specs.Walk.{top_level, start, top_items, Outcome, denied, accepted, outcome, walk_stream, walk_by, listed, those, walk, entries, filled, no_header, result, walked}
+use Rattle.walk.specs.Promises.{answer, numbers_of, marks, closed, body_answer, Is, Streamed, Streams, cleared, Denies, Accepts}
 use Rattle.walk.specs.declared.Walked.{Walked}
-use Rattle.walk.specs.declared.Refused.{Refused}
+use Rattle.walk.specs.declared.Accepted.{Accepted}
 use Rattle.walk.specs.declared.Marks.{Marks}
 use Rattle.walk.specs.declared.Frame.{Frame}
-use Rattle.walk.specs.declared.Done.{Done}
-use Rattle.walk.specs.declared.Done.TheVariants as D
 use Rattle.walk.proofs.Whole.{entries_length}
 use Rattle.walk.specs.Demands.{Meets}
 
--- ---- the skip list, from the place i on
+-- ---- the skip list: the library's search for a number is the definition's
+pub listed_as : (b : ℕ) (xs : List ℕ) → list_any (λ y. eqb y b) xs ≡ listed b xs
+unfolding listed when◌then◌else◌
+listed_as b [] = refl
+listed_as b (x ∷ xs) = go (eqb x b) (listed_as b xs)
+  where
+    go : (t : Bool) → list_any (λ y. eqb y b) xs ≡ listed b xs → (t || list_any (λ y. eqb y b) xs) ≡ (when t then true else listed b xs)
+    go true i = refl
+    go false i = i
+
 module _ (b : ℕ) (xs : List ℕ) (i : ℕ) where
   pub listed_none : length xs ≤ i → listed b (drop i xs) ≡ false
   unfolding listed
@@ -76,12 +87,12 @@ pub new_whole : (a : Abbreviations) → NothingHeld a → Whole (tables a.kinds 
 new_whole a h =
     record { kinds = long a.kinds slot_count h.0; widths = long a.widths slot_count h.1; shapes = long a.shapes row_count h.2; owners = long a.owners 32 h.3 }
 
-pub stream_is : (s skip ev ev' ops ops' : List ℕ) (t t' : Tables) (have local : ℕ) (r : Done) → have ≡ 0 → local ≡ 0
+pub stream_is : (s skip ev ev' ops ops' : List ℕ) (t t' : Tables) (have local : ℕ) (r : Result Marks Refused) → have ≡ 0 → local ≡ 0
     → Is s skip (outermost (length s)) (marks 0 0 0 have local) t t' ev ev' ops ops' r → Streams s skip ev ev' ops ops' r
 stream_is s skip ev ev' ops ops' t t' have local r i j h = go r (rw (i, j) at h)
   where
-    go : (r : Done) → Is s skip (outermost (length s)) (marks 0 0 0 0 0) t t' ev ev' ops ops' r → Streams s skip ev ev' ops ops' r
-    go (D.Go m) v = record {
+    go : (r : Result Marks Refused) → Is s skip (outermost (length s)) (marks 0 0 0 0 0) t t' ev ev' ops ops' r → Streams s skip ev ev' ops ops' r
+    go (Ok m) v = record {
       pieces = v.pieces;
       gives = sym (body_is s skip t (length ev) (length ops)) ∙ v.gives;
       events = v.room.events ∙ ap (λ z. entries (all_events v.pieces) ++ z) (none_closed (length s)) ∙ append-nil (entries (all_events v.pieces));
@@ -89,7 +100,7 @@ stream_is s skip ev ev' ops ops' t t' have local r i j h = go r (rw (i, j) at h)
       most_events = v.room.most_events;
       most_operands = v.room.most_operands;
     }
-    go (D.No x) v = sym (body_is s skip t (length ev) (length ops)) ∙ v
+    go (Err x) v = sym (body_is s skip t (length ev) (length ops)) ∙ v
 
 -- ---- the whole call: 15, then 1, then the walk
 module _ (bs skip : List ℕ) (ne nops : ℕ) where
@@ -101,20 +112,20 @@ module _ (bs skip : List ℕ) (ne nops : ℕ) where
   unfolding walk walk_by when◌then◌else◌
   walks_on h = rw (le-ltb max_input (length bs) h)
 
-  pub unheaded : {e : ℕ} → length bs ≤ max_input → P.Refused e ≡ parsed (signature bs) → walk bs skip ne nops ≡ denied (refusal e 0 0 0)
+  pub unheaded : {e : Reason} → length bs ≤ max_input → Err e ≡ parsed (signature bs) → walk bs skip ne nops ≡ denied (at_bit 0 (no_of e))
   unfolding walk_stream parsed
   unheaded {e} h i = walks_on h ∙ go (signature bs) i
     where
-      go : (o : Opened) → P.Refused e ≡ parsed o → walk_stream o (those skip) ne nops ≡ denied (refusal e 0 0 0)
+      go : (o : Opened) → Err e ≡ parsed o → walk_stream o (those skip) ne nops ≡ denied (at_bit 0 (no_of e))
       go unsigned i = cc
       go (opened g s) i = cc
 
-  pub headed_on : {g : Signature} {s : List ℕ} → length bs ≤ max_input → P.Signed g ≡ parsed (signature bs) → s ≡ stream (signature bs)
+  pub headed_on : {g : Signature} {s : List ℕ} → length bs ≤ max_input → Ok g ≡ parsed (signature bs) → s ≡ stream (signature bs)
       → walk bs skip ne nops ≡ outcome g (top_items (those skip) ne nops s (length s) 0)
   unfolding walk_stream parsed stream
   headed_on {g} {s} h i j = walks_on h ∙ go (signature bs) i j
     where
-      go : (o : Opened) → P.Signed g ≡ parsed o → s ≡ stream o → walk_stream o (those skip) ne nops ≡ outcome g (top_items (those skip) ne nops s (length s) 0)
+      go : (o : Opened) → Ok g ≡ parsed o → s ≡ stream o → walk_stream o (those skip) ne nops ≡ outcome g (top_items (those skip) ne nops s (length s) 0)
       go unsigned i j = cc
       go (opened g' s') i j = cc
 
@@ -129,12 +140,29 @@ meets_as : (bs skip : List ℕ) (ne nops : ℕ) (o : Outcome) {w : Walked} {es o
 unfolding walked
 meets_as bs skip ne nops o i h j k = rw i (h, (j, k))
 
--- all zero: a refusal, in stores of the sizes that were lent
-pub meets_denied : (bs skip : List ℕ) (ne nops : ℕ) {ne' nops' : ℕ} (x : Refused) {w : Walked} {es os : List ℕ} {r : Refusal}
-    → ne' ≡ ne → nops' ≡ nops → refusal_of x ≡ r → walk bs skip ne nops ≡ denied r → Denies x ne' nops' w es os → Meets bs skip ne nops w es os
+-- what is told of a refusal, by its number and its details
+refusal_told : (ne nops at : ℕ) (x : No) → result ne nops (denied (at_bit at x)) ≡ record {
+  status = number_of x;
+  place = at;
+  first = first_of x;
+  second = second_of x;
+  header = no_header;
+  event_count = 0;
+  operand_count = 0;
+  event_store = filled ne [];
+  operand_store = filled nops [];
+}
 unfolding result
+refusal_told ne nops at (no n x y) = refl
+
+-- all zero: a refusal, in stores of the sizes that were lent
+pub meets_denied : (bs skip : List ℕ) (ne nops : ℕ) {ne' nops' : ℕ} (x : Refused) {w : Result Accepted Refused} {es os : List ℕ} {r : Refusal}
+    → ne' ≡ ne → nops' ≡ nops → refusal_of x ≡ r → walk bs skip ne nops ≡ denied r → Denies x ne' nops' w es os
+    → Meets bs skip ne nops (numbers_of w) es os
 meets_denied bs skip ne nops x i j k o d =
-    meets_as bs skip ne nops (denied (refusal_of x)) (o ∙ ap denied (sym k)) d.0 (d.1 ∙ ap (λ n. filled n []) i) (d.2 ∙ ap (λ n. filled n []) j)
+    let z = refusal_told ne nops x.place (no_of x.reason) in
+    meets_as bs skip ne nops (denied (refusal_of x)) (o ∙ ap denied (sym k)) (ap numbers_of d.0 ∙ ap answer (sym z))
+    (d.1 ∙ ap (λ n. filled n []) i ∙ ap (λ t. t.event_store) (sym z)) (d.2 ∙ ap (λ n. filled n []) j ∙ ap (λ t. t.operand_store) (sym z))
 
 -- a store that holds xs up to n, and zeros behind it
 filled_is : (l xs : List ℕ) (n size : ℕ) → take n l ≡ xs → n ≤ length l → length l ≡ size → cleared n l ≡ filled size xs
@@ -144,10 +172,10 @@ filled_is l xs n size e h k =
     ap₂ (λ z i. z ++ replicate (length l - i) 0) e m ∙ ap (λ i. xs ++ replicate (i - length xs) 0) k
 
 -- accepted: what the stream's walk left in the stores
-pub meets_accepted : (bs skip ev ops : List ℕ) {g : Signature} {s ev' ops' : List ℕ} (m : Marks) {w : Walked} {es os : List ℕ}
+pub meets_accepted : (bs skip ev ops : List ℕ) {g : Signature} {s ev' ops' : List ℕ} (m : Marks) {w : Result Accepted Refused} {es os : List ℕ}
     → walk bs skip (length ev) (length ops) ≡ outcome g (top_items (those skip) (length ev) (length ops) s (length s) 0)
     → Streamed s skip ev ev' ops ops' m → length ev' ≡ length ev → length ops' ≡ length ops
-    → Accepts g m ev' ops' w es os → Meets bs skip (length ev) (length ops) w es os
+    → Accepts g m ev' ops' w es os → Meets bs skip (length ev) (length ops) (numbers_of w) es os
 unfolding result outcome
 meets_accepted bs skip ev ops {g} {s} {ev'} {ops'} m o h i j a =
     let xs = h.pieces in
@@ -155,6 +183,6 @@ meets_accepted bs skip ev ops {g} {s} {ev'} {ops'} m o h i j a =
     let c : m.events / event_size ≡ length (all_events xs) = omega arith in
     let k : m.operands ≡ length (all_store xs) = sym (length-take-le m.operands ops' h.most_operands) ∙ ap length h.operands in
     meets_as bs skip (length ev) (length ops) (accepted g xs) (o ∙ ap (outcome g) h.gives)
-    (a.0 ∙ ap₂ (λ (x : ℕ) (y : ℕ). record { status = 0; place = 0; first = 0; second = 0; header = g; events = x; operands = y }) c k)
+    (ap numbers_of a.0 ∙ ap₂ (λ (x : ℕ) (y : ℕ). record { status = 0; place = 0; first = 0; second = 0; header = g; events = x; operands = y }) c k)
     (a.1 ∙ filled_is ev' (entries (all_events xs)) m.events (length ev) h.events h.most_events i)
     (a.2 ∙ filled_is ops' (all_store xs) m.operands (length ops) h.operands h.most_operands j)

@@ -1,5 +1,6 @@
 -- Records and heads, put together from their parts. A record is read in two parts by the definition, and as code, operands and payload by the code:
 -- both are one reader. Assumes nothing.
+use Rattle.std.specs.Prelude.{Result, Ok, Err}
 use mathlib.Core.Path.{◌≡◌, refl, sym, ap, ap₂, subst, fun_ext, ◌∙◌}
 use mathlib.Core.Bool.{Bool, true, false}
 use mathlib.Core.List.{List, [], ◌∷◌, ◌++◌, append_assoc, append-nil}
@@ -9,16 +10,17 @@ use lib.ListN.{length, take}
 use lib.Seq.{length-take-le}
 use lib.Dec.{leb, ltb}
 use borrow.Rule.Slice.PartMut.{put_mid}
-use borrow.Author.Tests.{le-leb, lt-leb, lt-ltb, ne_eqb, leb-true}
+use borrow.Author.Tests.{le-leb, lt-leb, lt-ltb, ne_eqb, leb-true, leb-false}
+use Rattle.terms.specs.declared.Reason.{Reason}
 use Rattle.terms.specs.Refusals.{No, buffer_overflow, invalid_abbrev, block_number_too_large}
 use Rattle.bits.specs.Reader.{Reader, Answer, got, refused, onward, ◌>>=◌, give, stop, require, when◌then◌else◌}
 use Rattle.bits.specs.Bits.{limit, align, vbr, skip}
 use Rattle.bits.specs.Told.{At, Off}
 use Rattle.bits.specs.declared.Cursor.{Cursor}
 use Rattle.bits.proofs.Steps.{on, then_off, off, ends, pass, pass_off, from_here, off_here, never}
-use Rattle.bits.proofs.Laws.{align_gives, skip_gives, skip_to}
+use Rattle.bits.proofs.Laws.{align_gives, skip_gives, skip_to, skip_off}
 use Rattle.bitcode.specs.declared.ScalarOperand.{ScalarOperand}
-use Rattle.bitcode.specs.declared.ScalarOperand.TheVariants.{Vbr}
+use Rattle.bitcode.specs.declared.ScalarOperand.TheVariants.{Literal, Fixed, Vbr, Char6}
 use Rattle.bitcode.specs.Scalar.{value}
 use Rattle.abbrev.specs.Abbrev.{Payload, none, blob, array, abbreviation}
 use Rattle.abbrev.specs.Tables.{row_size, slot, slots, load_of, abbrev_of}
@@ -27,10 +29,7 @@ use Rattle.walk.specs.Piece.{Head, head, record_event, record_of}
 use Rattle.walk.specs.Item.{heading, fits}
 use Rattle.walk.specs.Promises.{plain, abbreviated, blob_bytes, load, Reads, Loads, Recorded, Loaded, head_length, head_width, head_fits, Heads}
 use Rattle.walk.specs.declared.RecordRead.{RecordRead}
-use Rattle.walk.specs.declared.Got.{Got}
-use Rattle.walk.specs.declared.Got.TheVariants as G
-use Rattle.walk.specs.declared.HeadRead.{HeadRead}
-use Rattle.walk.specs.declared.HeadRead.TheVariants as H
+use Rattle.walk.specs.declared.BlockHead.{BlockHead}
 use Rattle.walk.proofs.Blobs.{octets_length}
 use Rattle.walk.proofs.Runs.{stored_is}
 use Rattle.walk.proofs.Stores.{take_put_front}
@@ -113,6 +112,13 @@ plain_reads {code = code} {n = n} ops ops' ys fill x y z h t m = record {
 }
 
 -- ---- a payload
+pub list_kind : (k : ScalarOperand) → (k ≡ Char6 → ⊥) → array_kind k ≡ 1
+unfolding array_kind
+list_kind (Literal v) h = refl
+list_kind (Fixed w) h = refl
+list_kind (Vbr w) h = refl
+list_kind Char6 h = absurd (h refl)
+
 pub none_loads : {g : Cursor} {s : List ℕ} (left l code n fill : ℕ) (k : ScalarOperand) (ops : List ℕ) → l ≡ 0 → fill ≤ length ops
     → Loads g s (load left (load_of l k)) ops ops (record_read code n 0 0 0 fill) (record_read code n 0 0 0 fill) g
 unfolding load load_of when◌then◌else◌ record_of load_list
@@ -137,6 +143,9 @@ array_loads {n = n} k ops ops' ys r x y h t m = record {
   most = m;
 }
 
+same_refusal : {A : Type 0} {r r' : No} → ◌≡◌ {A = Answer No A} (refused r) (refused r') → r ≡ r'
+same_refusal h = cc
+
 -- a skip from a byte's first bit takes what the bytes of a blob take
 bytes_at : {c d : Cursor} {s : List ℕ} (n : ℕ) → At (skip n) s c.end c.at tt d → At (bytes n) s c.end c.at (octets s c.at n) d
 unfolding bytes bytes_if
@@ -144,13 +153,15 @@ bytes_at {c} {d} {s} n x =
     let w = skip_gives s c.end c.at d.at n x.gives in
     record { gives = rw (le-leb (c.at + 8 * n) (limit s c.end) w.1.inside, w.1.moved); ends = x.ends }
 
-bytes_off : {c : Cursor} {s : List ℕ} (n : ℕ) {r : No} → c.at % 8 ≡ 0 → Off (skip n) s c.end c.at r → Off (bytes n) s c.end c.at buffer_overflow
+bytes_off : {c : Cursor} {s : List ℕ} (n : ℕ) {r : No} → c.at % 8 ≡ 0 → Off (skip n) s c.end c.at r → Off (bytes n) s c.end c.at r
 unfolding bytes bytes_if
 bytes_off {c} {s} n {r} h x = record { why = go (leb (c.at + 8 * n) (limit s c.end)) refl }
   where
-    go : (b : Bool) → leb (c.at + 8 * n) (limit s c.end) ≡ b → bytes_if b s c.at n ≡ refused buffer_overflow
+    go : (b : Bool) → leb (c.at + 8 * n) (limit s c.end) ≡ b → bytes_if b s c.at n ≡ refused r
     go true i = absurd (never (sym x.why ∙ (skip_to s c.end c.at n h (leb-true _ _ i)).gives))
-    go false i = refl
+    go false i =
+        let o : Off (skip n) s c.end c.at buffer_overflow = skip_off s c.end c.at n h (leb-false _ _ i) in
+        ap refused (same_refusal (sym o.why ∙ x.why))
 
 pub aligned : {c d : Cursor} {s : List ℕ} → At align s c.end c.at tt d → d.at % 8 ≡ 0
 aligned {c} {d} {s} x = let w = align_gives s c.end c.at d.at x.gives in omega (arith, w.moved)
@@ -171,16 +182,16 @@ module _ {c d : Cursor} {s : List ℕ} (n : ℕ) where
   unfolding blob_bytes
   bytes_unaligned z w = off_here _ (then_off _ (bytes_at n z) (off _ w))
 
-pub bytes_short : {c : Cursor} {s : List ℕ} (n : ℕ) {r : No} → c.at % 8 ≡ 0 → Off (skip n) s c.end c.at r → Off (blob_bytes n) s c.end c.at buffer_overflow
+pub bytes_short : {c : Cursor} {s : List ℕ} (n : ℕ) {r : No} → c.at % 8 ≡ 0 → Off (skip n) s c.end c.at r → Off (blob_bytes n) s c.end c.at r
 unfolding blob_bytes
 bytes_short n h z = off_here _ (off _ (bytes_off n h z))
 
 -- a payload behind what stands before it
-pub loads_behind : {A : Type 0} {c d : Cursor} {s : List ℕ} {m : Reader No A} {a : A} (f : A → Reader No Load) (ops ops' : List ℕ) (r : RecordRead) (t : Got)
+pub loads_behind : {A : Type 0} {c d : Cursor} {s : List ℕ} {m : Reader No A} {a : A} (f : A → Reader No Load) (ops ops' : List ℕ) (r : RecordRead) (t : Result (RecordRead × Cursor) Reason)
     → At m s c.end c.at a d → Loaded d s (f a) ops ops' r t → Loaded c s (m >>= f) ops ops' r t
-loads_behind f ops ops' r (G.Of r' g) x z =
+loads_behind f ops ops' r (Ok (r', g)) x z =
     record { load_read = z.load_read; gives = on f x z.gives; event = z.event; operands = z.operands; most = z.most }
-loads_behind f ops ops' r (G.Refused n u v) x z = then_off f x z
+loads_behind f ops ops' r (Err why) x z = then_off f x z
 
 -- ---- a record by the abbreviation of a row
 module _ (left : ℕ) (kinds widths : List ℕ) (base shape : ℕ) where
@@ -205,12 +216,12 @@ module _ (left : ℕ) (kinds widths : List ℕ) (base shape : ℕ) where
   scalars_off x = rw row_reader (off _ x)
 
   -- the payload is behind the operands, which are the front ys of the store's rest
-  pub load_told : {c g : Cursor} {s : List ℕ} {code : ℕ} (fill : ℕ) (ys ops ops' : List ℕ) (t : Got) → fill ≤ length ops
+  pub load_told : {c g : Cursor} {s : List ℕ} {code : ℕ} (fill : ℕ) (ys ops ops' : List ℕ) (t : Result (RecordRead × Cursor) Reason) → fill ≤ length ops
       → At (values (suc left) (slots kinds widths base (shape % row_size))) s c.end c.at (code ∷ take many ys) g → many ≤ length ys
       → Loaded g s (load (left - many) payload) (put_mid fill (length ops - fill) ops ys) ops' (record_read code many 0 0 0 (fill + many)) t
       → Recorded c s (abbreviated left (abbrev_of kinds widths base shape)) fill ops ops' t
   unfolding record_list behind_scalars
-  load_told {code = code} fill ys ops ops' (G.Of r k) f x h z =
+  load_told {code = code} fill ys ops ops' (Ok (r, k)) f x h z =
       let e = length-take-le many ys h in
       record {
         record_read = a_record code (take many ys) z.load_read;
@@ -221,10 +232,10 @@ module _ (left : ℕ) (kinds widths : List ℕ) (base shape : ℕ) where
             ∙ append_assoc (take fill ops) (take many ys) (load_list z.load_read);
         most = z.most;
       }
-  load_told fill ys ops ops' (G.Refused m u v) f x h z = rw row_reader (then_off _ x (off _ (rw (sym (length-take-le many ys h)) at z)))
+  load_told fill ys ops ops' (Err why) f x h z = rw row_reader (then_off _ x (off _ (rw (sym (length-take-le many ys h)) at z)))
 
 -- the payload by its number
-pub array_told : (g : Cursor) (s : List ℕ) (a b l : ℕ) (k : ScalarOperand) (ops ops' : List ℕ) (r : RecordRead) (t : Got) → l ≡ 1 → a ≡ b
+pub array_told : (g : Cursor) (s : List ℕ) (a b l : ℕ) (k : ScalarOperand) (ops ops' : List ℕ) (r : RecordRead) (t : Result (RecordRead × Cursor) Reason) → l ≡ 1 → a ≡ b
     → Loaded g s (load a (array k)) ops ops' r t → Loaded g s (load b (load_of l k)) ops ops' r t
 unfolding load_of when◌then◌else◌
 array_told g s a b l k ops ops' r t h e x =
@@ -234,7 +245,7 @@ is_blob : (l : ℕ) (k : ScalarOperand) → (l ≡ 0 → ⊥) → (l ≡ 1 → �
 unfolding load_of when◌then◌else◌
 is_blob l k h j = rw (ne_eqb l 0 h, ne_eqb l 1 j)
 
-pub blob_told : (g : Cursor) (s : List ℕ) (b l : ℕ) (k : ScalarOperand) (ops ops' : List ℕ) (r : RecordRead) (t : Got) → (l ≡ 0 → ⊥) → (l ≡ 1 → ⊥)
+pub blob_told : (g : Cursor) (s : List ℕ) (b l : ℕ) (k : ScalarOperand) (ops ops' : List ℕ) (r : RecordRead) (t : Result (RecordRead × Cursor) Reason) → (l ≡ 0 → ⊥) → (l ≡ 1 → ⊥)
     → Loaded g s (load b blob) ops ops' r t → Loaded g s (load b (load_of l k)) ops ops' r t
 blob_told g s b l k ops ops' r t h j x = subst (λ z. Loaded g s (load b z) ops ops' r t) (sym (is_blob l k h j)) x
 
@@ -256,16 +267,16 @@ head_is =
     bind_assoc _ _ _ ∙ then_same _ (λ n. bind_assoc _ _ _ ∙ then_same _ (λ p. given _ _))))))
 
 -- a head behind what stands before it
-pub heads_behind : {A : Type 0} {c d : Cursor} {s : List ℕ} {m : Reader No A} {a : A} (f : A → Reader No Head) (t : HeadRead)
+pub heads_behind : {A : Type 0} {c d : Cursor} {s : List ℕ} {m : Reader No A} {a : A} (f : A → Reader No Head) (t : Result (BlockHead × Cursor) Reason)
     → At m s c.end c.at a d → Heads d s (f a) t → Heads c s (m >>= f) t
-heads_behind {s = s} f (H.At b w n g) x z = (on f x z.0, rw x.ends at z.1)
-heads_behind f (H.Refused n u v) x z = then_off f x z
+heads_behind {s = s} f (Ok (h, g)) x z = (on f x z.0, rw x.ends at z.1)
+heads_behind f (Err why) x z = then_off f x z
 
-pub heads_as : (c : Cursor) (s : List ℕ) {m m' : Reader No Head} (t : HeadRead) → m ≡ m' → Heads c s m' t → Heads c s m t
+pub heads_as : (c : Cursor) (s : List ℕ) {m m' : Reader No Head} (t : Result (BlockHead × Cursor) Reason) → m ≡ m' → Heads c s m' t → Heads c s m t
 heads_as c s t i z = subst (λ x. Heads c s x t) (sym i) z
 
 -- a number that a block may have
-pub heads_pass : (c : Cursor) (s : List ℕ) (b : ℕ) (t : HeadRead) → b < 2 ^ 32 → Heads c s (head_width b) t
+pub heads_pass : (c : Cursor) (s : List ℕ) (b : ℕ) (t : Result (BlockHead × Cursor) Reason) → b < 2 ^ 32 → Heads c s (head_width b) t
     → Heads c s (require (ltb b (2 ^ 32)) (block_number_too_large b) >>= (λ u. head_width b)) t
-heads_pass c s b (H.At b' w n g) h z = (pass _ _ (lt-ltb b (2 ^ 32) h) z.0, z.1)
-heads_pass c s b (H.Refused n u v) h z = pass_off _ _ (lt-ltb b (2 ^ 32) h) z
+heads_pass c s b (Ok (i, g)) h z = (pass _ _ (lt-ltb b (2 ^ 32) h) z.0, z.1)
+heads_pass c s b (Err why) h z = pass_off _ _ (lt-ltb b (2 ^ 32) h) z

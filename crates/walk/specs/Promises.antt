@@ -1,43 +1,38 @@
 -- What the values, the tables and the stores of the code stand for: the relations that the walk's functions promise to each other. The public call's
 -- contract cites only `answer` of these. Assumes nothing.
-use Rattle.std.specs.Prelude.{◌≡◌, false, List, [], ◌∷◌, ◌++◌, ℕ, suc, ◌+◌, ◌-◌, ◌*◌, ◌/◌, ◌≤◌, ◌<◌, length, take, replicate}
+use Rattle.std.specs.Prelude.{◌≡◌, false, List, [], ◌∷◌, ◌++◌, ℕ, suc, ◌+◌, ◌-◌, ◌*◌, ◌/◌, ◌≤◌, ◌<◌, length, take, replicate, Result, Ok, Err}
 use Rattle.std.proofs.Math.Option.{Option, none as nothing, some}
 use Rattle.terms.specs.Limits.{event_size, max_shared, max_local}
-use Rattle.terms.specs.Refusals.{No, no, Refusal, refusal}
+use Rattle.terms.specs.Refusals.{No, Refusal, no_of, number_of, first_of, second_of, refusal_of}
+use Rattle.terms.specs.declared.Reason.{Reason}
+use Rattle.terms.specs.declared.Reason.TheVariants.{NoEventRoom}
+use Rattle.terms.specs.declared.Refused.{Refused}
 use Rattle.bits.specs.Reader.{Reader, Answer, got, refused, onward, ◌>>=◌, ◌>>◌, give, when◌then◌else◌, here, turns, placed}
 use Rattle.bits.specs.Bits.{limit, read, vbr, align}
-use Rattle.bits.specs.Told.{At, Off}
+use Rattle.bits.specs.Told.{At, Off, Gives, of_read}
 use Rattle.bits.specs.declared.Cursor.{Cursor}
-use Rattle.bits.specs.declared.Read.{Read}
-use Rattle.bits.specs.declared.Read.TheVariants as T
 use Rattle.bitcode.specs.declared.Signature.{Signature}
 use Rattle.bitcode.specs.declared.ScalarOperand.{ScalarOperand}
 use Rattle.abbrev.specs.Abbrev.{Payload, none, blob, array, Abbrev}
 use Rattle.abbrev.specs.BlockInfo.{shared_for}
-use Rattle.abbrev.specs.Tables.{Tables, shareds, block_rows}
+use Rattle.bitcode.specs.Scalar.{value}
+use Rattle.abbrev.specs.Tables.{Tables, tables, shareds, block_rows}
+use Rattle.abbrev.specs.declared.Abbreviations.{Abbreviations}
 use Rattle.walk.specs.Record.{Load, no_load, list_load, blob_load, Record, a_record, values, repeated, bytes, scalar_part, unabbreviated, array_kind, rest, load_list, record_list}
 use Rattle.walk.specs.Piece.{Head, head, Piece, Pieces, Event, enter, leave, record_event, record_of, events, all_events, store, all_store, all_added, State, after}
 use Rattle.walk.specs.Item.{Context, heading, Opening, headed, begun, fits, finish, opening, complete, items, nested}
-use Rattle.walk.specs.Walk.{entry, entries, those, top_items, filled, Result, no_header}
+use Rattle.walk.specs.Walk.{entry, entries, those, top_items, filled, Result as Told, no_header}
+use Rattle.walk.specs.declared.Accepted.{Accepted}
 use Rattle.walk.specs.declared.Walked.{Walked}
-use Rattle.walk.specs.declared.Refused.{Refused}
 use Rattle.walk.specs.declared.Marks.{Marks}
 use Rattle.walk.specs.declared.Frame.{Frame}
-use Rattle.walk.specs.declared.Entry.{Entry}
 use Rattle.walk.specs.declared.RecordRead.{RecordRead}
-use Rattle.walk.specs.declared.Done.{Done}
-use Rattle.walk.specs.declared.Done.TheVariants as D
+use Rattle.walk.specs.declared.BlockHead.{BlockHead}
 use Rattle.walk.specs.declared.Step.{Step}
 use Rattle.walk.specs.declared.Step.TheVariants as S
-use Rattle.walk.specs.declared.Run.{Run}
-use Rattle.walk.specs.declared.Run.TheVariants as R
-use Rattle.walk.specs.declared.Got.{Got}
-use Rattle.walk.specs.declared.Got.TheVariants as G
-use Rattle.walk.specs.declared.HeadRead.{HeadRead}
-use Rattle.walk.specs.declared.HeadRead.TheVariants as H
 
 -- ---- what the public call returns, of what the definition says
-abbrev pub answer : Result → Walked
+abbrev pub answer : Told → Walked
 answer r = record {
   status = r.status;
   place = r.place;
@@ -48,12 +43,35 @@ answer r = record {
   operands = r.operand_count;
 }
 
--- ---- structs
-abbrev pub entry_of : Entry → List ℕ
-entry_of e = e.kind ∷ e.block ∷ e.a ∷ e.b ∷ e.c ∷ e.d ∷ e.e ∷ e.f ∷ []
+-- and what the code's answer says, in the same numbers
+abbrev pub numbers_of : Result Accepted Refused → Walked
+numbers_of (Ok a) = record {
+  status = 0;
+  place = 0;
+  first = 0;
+  second = 0;
+  header = a.header;
+  events = a.events;
+  operands = a.operands;
+}
+numbers_of (Err r) = record {
+  status = number_of (no_of r.reason);
+  place = r.place;
+  first = first_of (no_of r.reason);
+  second = second_of (no_of r.reason);
+  header = no_header;
+  events = 0;
+  operands = 0;
+}
 
-abbrev pub refusal_of : Refused → Refusal
-refusal_of x = refusal x.number x.place x.first x.second
+-- ---- structs
+-- a refusal inside an item that began at the bit `at`
+abbrev pub placed_at : {A : Type 0} → ℕ → Result A Reason → Result A Refused
+placed_at at (Ok a) = Ok a
+placed_at at (Err why) = Err (record { reason = why; place = at })
+
+abbrev pub held : Abbreviations → Tables
+held a = tables a.kinds a.widths a.shapes a.owners
 
 abbrev pub frame : ℕ → ℕ → ℕ → ℕ → ℕ → Frame
 frame number width end left base = record { number = number; width = width; end = end; left = left; top = false; base = base }
@@ -153,12 +171,16 @@ pub record Ended (s skip : List ℕ) (f : Frame) (m m' : Marks) (own : List ℕ)
   pub shared : m'.shared ≡ m.shared
   pub freed : m'.local ≡ f.base
 
-abbrev pub Does : List ℕ → List ℕ → Frame → Marks → List ℕ → Tables → Tables → List ℕ → List ℕ → List ℕ → List ℕ → Answer Refusal Opening → Step → Type 0
-Does s skip f m own t t' ev ev' ops ops' x (S.Go m') = Went s skip f m m' own t t' ev ev' ops ops' x
-Does s skip f m own t t' ev ev' ops ops' x (S.Into m' b w n) = Entered s skip f m m' b w n ev ev' ops ops' x
-Does s skip f m own t t' ev ev' ops ops' x (S.End m') = Ended s skip f m m' own t ev ev' ops ops' x
-Does s skip f m own t t' ev ev' ops ops' x (S.No r) =
+abbrev pub Does : List ℕ → List ℕ → Frame → Marks → List ℕ → Tables → Tables → List ℕ → List ℕ → List ℕ → List ℕ → Answer Refusal Opening → Result Step Refused → Type 0
+Does s skip f m own t t' ev ev' ops ops' x (Ok (S.Go m')) = Went s skip f m m' own t t' ev ev' ops ops' x
+Does s skip f m own t t' ev ev' ops ops' x (Ok (S.Into m' h)) = Entered s skip f m m' h.block h.width h.length ev ev' ops ops' x
+Does s skip f m own t t' ev ev' ops ops' x (Ok (S.End m')) = Ended s skip f m m' own t ev ev' ops ops' x
+Does s skip f m own t t' ev ev' ops ops' x (Err r) =
     completed s skip f (state_of f m own t (length ev) (length ops)) x ≡ refused (refusal_of r)
+
+-- what a part of the item does: its refusal gets the item's place
+abbrev pub DoesIn : List ℕ → List ℕ → Frame → Marks → List ℕ → Tables → Tables → List ℕ → List ℕ → List ℕ → List ℕ → Answer Refusal Opening → Result Step Reason → Type 0
+DoesIn s skip f m own t t' ev ev' ops ops' x r = Does s skip f m own t t' ev ev' ops ops' x (placed_at m.at r)
 
 -- ---- a whole block
 abbrev pub body_answer : List ℕ → List ℕ → Frame → Marks → Tables → ℕ → ℕ → Answer Refusal Pieces
@@ -174,9 +196,9 @@ pub record Visited (s skip : List ℕ) (f : Frame) (m m' : Marks) (t t' : Tables
   pub most : m'.shared ≤ max_shared
   pub freed : m'.local ≡ f.base
 
-abbrev pub Is : List ℕ → List ℕ → Frame → Marks → Tables → Tables → List ℕ → List ℕ → List ℕ → List ℕ → Done → Type 0
-Is s skip f m t t' ev ev' ops ops' (D.Go m') = Visited s skip f m m' t t' ev ev' ops ops'
-Is s skip f m t t' ev ev' ops ops' (D.No x) = body_answer s skip f m t (length ev) (length ops) ≡ refused (refusal_of x)
+abbrev pub Is : List ℕ → List ℕ → Frame → Marks → Tables → Tables → List ℕ → List ℕ → List ℕ → List ℕ → Result Marks Refused → Type 0
+Is s skip f m t t' ev ev' ops ops' (Ok m') = Visited s skip f m m' t t' ev ev' ops ops'
+Is s skip f m t t' ev ev' ops ops' (Err x) = body_answer s skip f m t (length ev) (length ops) ≡ refused (refusal_of x)
 
 -- ---- the whole stream
 pub record Streamed (s skip ev ev' ops ops' : List ℕ) (m : Marks) : Type 0 where
@@ -187,35 +209,42 @@ pub record Streamed (s skip ev ev' ops ops' : List ℕ) (m : Marks) : Type 0 whe
   pub most_events : m.events ≤ length ev'
   pub most_operands : m.operands ≤ length ops'
 
-abbrev pub Streams : List ℕ → List ℕ → List ℕ → List ℕ → List ℕ → List ℕ → Done → Type 0
-Streams s skip ev ev' ops ops' (D.Go m) = Streamed s skip ev ev' ops ops' m
-Streams s skip ev ev' ops ops' (D.No x) = top_items (those skip) (length ev) (length ops) s (length s) 0 ≡ refused (refusal_of x)
+abbrev pub Streams : List ℕ → List ℕ → List ℕ → List ℕ → List ℕ → List ℕ → Result Marks Refused → Type 0
+Streams s skip ev ev' ops ops' (Ok m) = Streamed s skip ev ev' ops ops' m
+Streams s skip ev ev' ops ops' (Err x) = top_items (those skip) (length ev) (length ops) s (length s) 0 ≡ refused (refusal_of x)
 
 -- the stores at the end
 abbrev pub cleared : ℕ → List ℕ → List ℕ
 cleared from xs = take from xs ++ replicate (length xs - from) 0
 
-abbrev pub Denies : Refused → ℕ → ℕ → Walked → List ℕ → List ℕ → Type 0
-Denies x ne nops r ev' ops' =
-    (r ≡ record { status = x.number; place = x.place; first = x.first; second = x.second; header = no_header; events = 0; operands = 0 })
-    × (ev' ≡ filled ne []) × (ops' ≡ filled nops [])
+abbrev pub Denies : Refused → ℕ → ℕ → Result Accepted Refused → List ℕ → List ℕ → Type 0
+Denies x ne nops r ev' ops' = (r ≡ Err x) × (ev' ≡ filled ne []) × (ops' ≡ filled nops [])
 
-abbrev pub Accepts : Signature → Marks → List ℕ → List ℕ → Walked → List ℕ → List ℕ → Type 0
+abbrev pub Accepts : Signature → Marks → List ℕ → List ℕ → Result Accepted Refused → List ℕ → List ℕ → Type 0
 Accepts h m ev ops r ev' ops' =
-    (r ≡ record { status = 0; place = 0; first = 0; second = 0; header = h; events = m.events / event_size; operands = m.operands })
+    (r ≡ Ok (record { header = h; events = m.events / event_size; operands = m.operands }))
     × (ev' ≡ cleared m.events ev) × (ops' ≡ cleared m.operands ops)
 
+-- an event's numbers behind the front of the store, where there is room
+abbrev pub Written : ℕ → List ℕ → List ℕ → List ℕ → Result (Unit {0}) Reason → Type 0
+Written at entry ev ev' (Ok u) = (at + event_size ≤ length ev) × (take (at + event_size) ev' ≡ take at ev ++ entry)
+Written at entry ev ev' (Err why) = (why ≡ NoEventRoom) × (length ev - at < event_size)
+
 -- ---- records
+-- each call of a reader that is handed over answers what the definition reads for the operand k; `post` is what such a call is known by
+abbrev pub ReadsEach : (Cursor → Result (ℕ × Cursor) Reason → Type 0) → List ℕ → ScalarOperand → Type 0
+ReadsEach post s k = (c : Cursor) (r : Result (ℕ × Cursor) Reason) → post c r → Gives c s (value k) (of_read r)
+
 -- a run of operands: the front of the store's rest
-abbrev pub Runs : Cursor → List ℕ → Reader No (List ℕ) → ℕ → List ℕ → Run → Type 0
-Runs c s m count rest (R.To d) = At m s c.end c.at (take count rest) d × (count ≤ length rest)
-Runs c s m count rest (R.Refused n) = Off m s c.end c.at (no n 0 0)
+abbrev pub Runs : Cursor → List ℕ → Reader No (List ℕ) → ℕ → List ℕ → Result Cursor Reason → Type 0
+Runs c s m count rest (Ok d) = At m s c.end c.at (take count rest) d × (count ≤ length rest)
+Runs c s m count rest (Err why) = Off m s c.end c.at (no_of why)
 
 -- the scalars of a record, as one run: the first is its code, for which there is always room, the others are the front of the store's rest
-abbrev pub Scalars : Cursor → List ℕ → ℕ → List ScalarOperand → ℕ → List ℕ → Read → Type 0
-Scalars c s left ks count rest (T.Value code d) =
+abbrev pub Scalars : Cursor → List ℕ → ℕ → List ScalarOperand → ℕ → List ℕ → Result (ℕ × Cursor) Reason → Type 0
+Scalars c s left ks count rest (Ok (code, d)) =
     At (values (suc left) ks) s c.end c.at (code ∷ take (count - 1) rest) d × (count - 1 ≤ length rest)
-Scalars c s left ks count rest (T.Refused n) = Off (values (suc left) ks) s c.end c.at (no n 0 0)
+Scalars c s left ks count rest (Err why) = Off (values (suc left) ks) s c.end c.at (no_of why)
 
 -- a record, its scalar part and the rest
 unfoldable pub plain : ℕ → Reader No Record
@@ -231,9 +260,9 @@ pub record Reads (c : Cursor) (s : List ℕ) (m : Reader No Record) (fill : ℕ)
   pub operands : take r.fill ops' ≡ take fill ops ++ record_list record_read
   pub most : r.fill ≤ length ops'
 
-abbrev pub Recorded : Cursor → List ℕ → Reader No Record → ℕ → List ℕ → List ℕ → Got → Type 0
-Recorded c s m fill ops ops' (G.Of r d) = Reads c s m fill ops ops' r d
-Recorded c s m fill ops ops' (G.Refused n x y) = Off m s c.end c.at (no n x y)
+abbrev pub Recorded : Cursor → List ℕ → Reader No Record → ℕ → List ℕ → List ℕ → Result (RecordRead × Cursor) Reason → Type 0
+Recorded c s m fill ops ops' (Ok (r, d)) = Reads c s m fill ops ops' r d
+Recorded c s m fill ops ops' (Err why) = Off m s c.end c.at (no_of why)
 
 -- a payload, behind a record's code and operands
 unfoldable pub blob_bytes : ℕ → Reader No Load
@@ -262,18 +291,18 @@ pub record Loads (c : Cursor) (s : List ℕ) (m : Reader No Load) (ops ops' : Li
   pub operands : take r'.fill ops' ≡ take r.fill ops ++ load_list load_read
   pub most : r'.fill ≤ length ops'
 
-abbrev pub Loaded : Cursor → List ℕ → Reader No Load → List ℕ → List ℕ → RecordRead → Got → Type 0
-Loaded c s m ops ops' r (G.Of r' d) = Loads c s m ops ops' r r' d
-Loaded c s m ops ops' r (G.Refused n x y) = Off m s c.end c.at (no n x y)
+abbrev pub Loaded : Cursor → List ℕ → Reader No Load → List ℕ → List ℕ → RecordRead → Result (RecordRead × Cursor) Reason → Type 0
+Loaded c s m ops ops' r (Ok (r', d)) = Loads c s m ops ops' r r' d
+Loaded c s m ops ops' r (Err why) = Off m s c.end c.at (no_of why)
 
 -- a record's event: the marks behind it, or no room
-abbrev pub Tells : Frame → Marks → RecordRead → ℕ → List ℕ → List ℕ → Step → Type 0
-Tells f m r at ev ev' (S.Go m') =
+abbrev pub Tells : Frame → Marks → RecordRead → ℕ → List ℕ → List ℕ → Result Step Reason → Type 0
+Tells f m r at ev ev' (Ok (S.Go m')) =
     (m' ≡ marks at (m.events + event_size) r.fill m.shared m.local) × (m.events + event_size ≤ length ev)
     × (take (m.events + event_size) ev' ≡ take m.events ev ++ entry (record_event f.number r.code m.operands r.count r.kind r.at r.length))
-Tells f m r at ev ev' (S.No x) = (refusal_of x ≡ refusal 18 m.at 0 0) × (length ev - m.events < event_size)
-Tells f m r at ev ev' (S.Into m' b w n) = ⊥
-Tells f m r at ev ev' (S.End m') = ⊥
+Tells f m r at ev ev' (Ok (S.Into m' h)) = ⊥
+Tells f m r at ev ev' (Ok (S.End m')) = ⊥
+Tells f m r at ev ev' (Err why) = (why ≡ NoEventRoom) × (length ev - m.events < event_size)
 
 -- ---- a head whose body fits, and its parts from the back
 unfoldable pub head_length : ℕ → ℕ → Reader No Head
@@ -295,6 +324,6 @@ head_fits = do
   fits h
   give h
 
-abbrev pub Heads : Cursor → List ℕ → Reader No Head → HeadRead → Type 0
-Heads c s m (H.At b w n d) = At m s c.end c.at (head b w (d.at / 8) n) d × (d.at + 8 * n ≤ limit s c.end)
-Heads c s m (H.Refused n x y) = Off m s c.end c.at (no n x y)
+abbrev pub Heads : Cursor → List ℕ → Reader No Head → Result (BlockHead × Cursor) Reason → Type 0
+Heads c s m (Ok (h, d)) = At m s c.end c.at (head h.block h.width (d.at / 8) h.length) d × (d.at + 8 * h.length ≤ limit s c.end)
+Heads c s m (Err why) = Off m s c.end c.at (no_of why)

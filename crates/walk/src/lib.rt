@@ -4,31 +4,25 @@
 
 ghost use Rattle.std.specs.Prelude.{◌≡◌, List, [], ◌∷◌, ◌++◌, true, false, ℕ, ◌+◌, ◌-◌, ◌*◌, ◌/◌, ◌%◌, ◌≤◌, ◌<◌, min, length, take, replicate};
 ghost use Rattle.terms.specs.Limits.{event_size, max_shared, max_local};
-ghost use Rattle.terms.specs.Refusals.{refusal};
-ghost use Rattle.bits.specs.Bits.{limit};
-ghost use Rattle.bitcode.specs.declared.ScalarOperand.TheVariants.{Literal, Fixed, Vbr, Char6};
+ghost use Rattle.bits.specs.Bits.{limit, read, vbr};
+ghost use Rattle.bits.specs.Told.{Gives, of_read};
+ghost use Rattle.bitcode.specs.Scalar.{value};
+ghost use Rattle.bitcode.specs.declared.ScalarOperand.TheVariants.{Char6};
 ghost use Rattle.abbrev.specs.Abbrev.{array, blob};
-ghost use Rattle.abbrev.specs.Tables.{row_size, row_count, slot_count, Tables, tables, slots, abbrev_of, Whole, Kept, Below};
+ghost use Rattle.abbrev.specs.Tables.{row_size, slot_count, Tables, slots, abbrev_of, Whole, Kept, Below};
 ghost use Rattle.walk.specs.Record.{repeated, array_kind};
 ghost use Rattle.walk.specs.Walk.{listed as listed_in, walked};
-ghost use Rattle.walk.specs.Promises.{entry_of, frame, marks, refusal_of, Sits, Behind, Does, opening_of, numbered_of, headed_at, Is, Runs, Scalars, Recorded, plain, abbreviated, load, Loaded, blob_bytes, head_length, head_width, head_fits, Heads, Tells, Streams, Denies, Accepts, answer};
+ghost use Rattle.walk.specs.Promises.{numbers_of, placed_at, held, Written, ReadsEach, frame, Sits, Behind, Does, DoesIn, opening_of, numbered_of, headed_at, Is, Runs, Scalars, Recorded, plain, abbreviated, load, Loaded, blob_bytes, head_length, head_width, head_fits, Heads, Tells, Streams, Denies, Accepts, answer};
 
-use abbrev::{
-    ARRAY_SHAPE, AbbrevNumber, Abbreviations, BlockNumber, Defined, Info, LOCAL, ROW, ROWS, Row,
-    SLOTS,
-};
-use bitcode::{Parsed, ScalarOperand, Signature};
-use bits::{Cursor, Move, Read};
-use terms::{
-    BLOCK_NUMBER_TOO_LARGE, BUFFER_OVERFLOW, EVENT_SIZE, INPUT_TOO_LONG, INVALID_ABBREV, MAX_INPUT,
-    MAX_LOCAL, MAX_OPEN, MAX_SHARED, MISSING_END_BLOCK, NO_ABBREVIATION_ROOM, NO_EVENT_ROOM,
-    NO_OPERAND_ROOM, TOO_DEEP,
-};
+use abbrev::{ARRAY_SHAPE, AbbrevNumber, Abbreviations, BlockNumber, LOCAL, ROW, SLOTS};
+use bitcode::{ScalarOperand, Signature};
+use bits::Cursor;
+use terms::{EVENT_SIZE, MAX_INPUT, MAX_LOCAL, MAX_OPEN, MAX_SHARED, Reason, Refused};
 
 // The number that records of the top level carry.
 const TOP_LEVEL_BLOCK_ID: u64 = 0xFFFF_FFFF;
 
-// The event kinds.
+// The event kinds: numbers, since an event is eight numbers of the lent store, and C reads them there.
 pub const ENTER: u64 = 1;
 
 pub const LEAVE: u64 = 2;
@@ -37,7 +31,8 @@ pub const RECORD: u64 = 3;
 
 pub const SKIP: u64 = 4;
 
-// The payload kinds: the values of an array, of Char6 or of any other element, lie in the operand store, the bytes of a blob in the input.
+// The payload kinds, numbers of the same store: the values of an array, of Char6 or of any other element, lie in the operand store, the bytes of a
+// blob in the input.
 pub const NO_PAYLOAD: u64 = 0;
 
 pub const ARRAY: u64 = 1;
@@ -46,9 +41,17 @@ pub const CHAR6: u64 = 2;
 
 pub const BLOB: u64 = 3;
 
-// What the walk returns: 0 or the refusal's number, its place in bits of the stream and its details; the header numbers; and how many events and
-// operands the stores hold.
-#[derive(Clone, Copy)]
+// An accepted walk: the header numbers; and how many events and operands the stores hold.
+#[derive(Clone, Copy, Debug, PartialEq, Eq)]
+pub struct Accepted {
+    pub header: Signature,
+    pub events: u64,
+    pub operands: u64,
+}
+
+// What a walk tells, in numbers, as document 01 lists them and a program in C gets them: 0 or the refusal's number, its place in bits of the stream
+// and its details; the header numbers; and how many events and operands the stores hold.
+#[derive(Clone, Copy, Debug, PartialEq, Eq)]
 pub struct Walked {
     pub status: u64,
     pub place: u64,
@@ -57,15 +60,6 @@ pub struct Walked {
     pub header: Signature,
     pub events: u64,
     pub operands: u64,
-}
-
-// A refusal of the walk.
-#[derive(Drop)]
-struct Refused {
-    number: u64,
-    place: u64,
-    first: u64,
-    second: u64,
 }
 
 // How far the walk has come: the next bit, how many numbers each store holds, and how many shared and local abbreviations the tables hold.
@@ -90,21 +84,8 @@ struct Frame {
     base: usize,
 }
 
-// An event's eight numbers.
-#[derive(Drop)]
-struct Entry {
-    kind: u64,
-    block: u64,
-    a: u64,
-    b: u64,
-    c: u64,
-    d: u64,
-    e: u64,
-    f: u64,
-}
-
 // A record as it was read: its code, how many operands, its payload's kind, place and length, and the operand store's fill mark behind it.
-#[derive(Drop)]
+#[derive(Clone, Copy)]
 struct RecordRead {
     code: u64,
     count: u64,
@@ -114,53 +95,62 @@ struct RecordRead {
     fill: usize,
 }
 
-// A block's walk.
-#[derive(Drop)]
-enum Done {
-    Go(Marks),
-    No(Refused),
+// A block's head whose body fits: number, width, and length in bytes.
+#[derive(Clone, Copy)]
+struct BlockHead {
+    block: u64,
+    width: u64,
+    length: u64,
 }
 
-// An item: the walk goes on; or it goes into a block, of this number, width and length; or the block ends.
-#[derive(Drop)]
+// An item: the walk goes on; or it goes into a block; or the block ends.
+#[derive(Clone, Copy)]
 enum Step {
     Go(Marks),
-    Into(Marks, u64, u64, u64),
+    Into(Marks, BlockHead),
     End(Marks),
-    No(Refused),
 }
 
-// A run of operands.
-#[derive(Drop)]
-enum Run {
-    To(Cursor),
-    Refused(u64),
-}
+impl From<Result<Accepted, Refused>> for Walked {
+    ghost from_gives = { λ r w. w ≡ numbers_of r };
 
-// A record, or a refusal's number and details; so for a head.
-#[derive(Drop)]
-enum Got {
-    Of(RecordRead, Cursor),
-    Refused(u64, u64, u64),
-}
-
-// A block's head whose body fits: number, width, length in bytes, and the cursor at the body.
-#[derive(Drop)]
-enum HeadRead {
-    At(u64, u64, u64, Cursor),
-    Refused(u64, u64, u64),
+    fn from(walked: Result<Accepted, Refused>) -> Walked {
+        match walked {
+            Ok(a) => Walked {
+                status: 0,
+                place: 0,
+                first: 0,
+                second: 0,
+                header: a.header,
+                events: a.events,
+                operands: a.operands,
+            },
+            Err(r) => {
+                let (first, second) = r.reason.details();
+                Walked {
+                    status: r.reason.number(),
+                    place: r.place,
+                    first,
+                    second,
+                    header: Signature::default(),
+                    events: 0,
+                    operands: 0,
+                }
+            }
+        }
+    }
 }
 
 impl Frame {
     // A block nested in this one, at the marks behind its enter event.
-    fn inside(self, m: Marks, number: u64, width: u64, n: u64) -> Frame
-        requires { (0 < self.left) × (m.at / 8 + n < 18446744073709551616) }
-        ensures { result ≡ frame number width (m.at / 8 + n) (self.left - 1) m.local }
+    fn inside(self, m: Marks, head: BlockHead) -> Frame
+        requires { (0 < self.left) × (m.at / 8 + head.length < 18446744073709551616) }
+        ensures { result ≡ frame head.block head.width (m.at / 8 + head.length) (self.left - 1) m.local }
     {
         Frame {
-            number,
-            width,
-            end: m.at / 8 + n,
+            number: head.block,
+            width: head.width,
+            end: m.at / 8 + head.length,
             left: self.left - 1,
             top: false,
             base: m.local,
@@ -169,273 +159,125 @@ impl Frame {
 }
 
 impl Marks {
-    // The same at another bit.
-    fn behind(self, at: u64) -> Marks
-        ensures { result ≡ marks at self.events self.operands self.shared self.local }
+    // What a part of the item that begins here answers: a refusal gets the item's place.
+    fn placed<T>(self, answer: Result<T, Reason>) -> Result<T, Refused>
+        ensures { result ≡ placed_at self.at answer }
     {
-        Marks {
-            at,
-            events: self.events,
-            operands: self.operands,
-            shared: self.shared,
-            local: self.local,
-        }
-    }
-
-    // The same with an event more, at another bit.
-    fn told(self, at: u64) -> Marks
-        requires { self.events + event_size < 18446744073709551616 }
-        ensures { result ≡ marks at (self.events + event_size) self.operands self.shared self.local }
-    {
-        Marks {
-            at,
-            events: self.events + EVENT_SIZE,
-            operands: self.operands,
-            shared: self.shared,
-            local: self.local,
-        }
-    }
-
-    // The same behind a BLOCKINFO, with so many shared abbreviations.
-    fn sharing(self, at: u64, shared: usize) -> Marks
-        ensures { result ≡ marks at self.events self.operands shared self.local }
-    {
-        Marks {
-            at,
-            events: self.events,
-            operands: self.operands,
-            shared,
-            local: self.local,
-        }
-    }
-
-    // The same behind a record, with an event more and another fill mark of the operand store.
-    fn recorded(self, at: u64, fill: usize) -> Marks
-        requires { self.events + event_size < 18446744073709551616 }
-        ensures { result ≡ marks at (self.events + event_size) fill self.shared self.local }
-    {
-        Marks {
-            at,
-            events: self.events + EVENT_SIZE,
-            operands: fill,
-            shared: self.shared,
-            local: self.local,
-        }
-    }
-
-    // The same with so many local abbreviations in use: leaving a block frees its own.
-    fn with_local(self, local: usize) -> Marks
-        ensures { result ≡ marks self.at self.events self.operands self.shared local }
-    {
-        Marks {
-            at: self.at,
-            events: self.events,
-            operands: self.operands,
-            shared: self.shared,
-            local,
+        match answer {
+            Ok(x) => Ok(x),
+            Err(reason) => Err(Refused {
+                reason,
+                place: self.at,
+            }),
         }
     }
 }
 
-// A refusal, with its details.
-fn refuse(number: u64, place: u64, first: u64, second: u64) -> Refused
-    ensures { refusal_of result ≡ refusal number place first second }
+// Writes one event's numbers, where there is room for them.
+fn put_event(events: &mut [u64], at: usize, entry: [u64; EVENT_SIZE]) -> Result<(), Reason>
+    requires { at ≤ length events.old }
+    ensures { Written at entry events.old events.new result }
 {
-    Refused {
-        number,
-        place,
-        first,
-        second,
+    if events.len() - at < EVENT_SIZE {
+        return Err(Reason::NoEventRoom);
     }
+    events[at..at + EVENT_SIZE].copy_from_slice(&entry);
+    Ok(())
 }
 
-// The entry of an enter event or a skip event.
-fn block_entry(kind: u64, block: u64, width: u64, start: u64, length: u64) -> Entry
-    ensures { entry_of result ≡ kind ∷ block ∷ width ∷ start ∷ length ∷ 0 ∷ 0 ∷ 0 ∷ [] }
+// So many operands, each read by `next`, into the part of the operand store that is not filled: as many as have room, and then a refusal if more are
+// wanted. LLVM gets a loop for each kind of operand out of it: in one for all, it would call the reader for each operand, and such a call takes longer
+// than the reading.
+fn fill<F: Fn(Cursor) -> Result<(u64, Cursor), Reason>>(
+    next: F,
+    c0: Cursor,
+    count: u64,
+    rest: &mut [u64],
+) -> Result<Cursor, Reason>
+    requires { F.IsAlwaysCallable next }
+    ensures { (s : List ℕ) (k : ScalarOperand) → ReadsEach (F.post next) s k → Runs c0 s (repeated (length rest.old) count k) count rest.new result }
 {
-    Entry {
-        kind,
-        block,
-        a: width,
-        b: start,
-        c: length,
-        d: 0,
-        e: 0,
-        f: 0,
-    }
-}
-
-// Writes one event's numbers.
-fn put_event(events: &mut [u64], at: usize, e: Entry)
-    requires { at + event_size ≤ length events.old }
-    ensures { take (at + event_size) events.new ≡ take at events.old ++ entry_of e }
-{
-    events[at] = e.kind;
-    events[at + 1] = e.block;
-    events[at + 2] = e.a;
-    events[at + 3] = e.b;
-    events[at + 4] = e.c;
-    events[at + 5] = e.d;
-    events[at + 6] = e.e;
-    events[at + 7] = e.f;
-}
-
-// Whether a block's number is in the skip list.
-fn listed(skip: &[u64], b: u64) -> bool
-    ensures { result ≡ listed_in b skip.now }
-{
-    let mut i: usize = 0;
-    loop {
-        if skip.len() <= i {
-            return false;
-        }
-        if skip[i] == b {
-            return true;
-        }
-        i = i + 1;
-    }
-}
-
-// How many of so many operands have room.
-fn room_for(count: u64, room: usize) -> usize
-    ensures { result ≡ min count room }
-{
-    if count < room as u64 {
-        count as usize
-    } else {
-        room
-    }
-}
-
-// So many fixed fields, into the part of the operand store that is not filled: as many as have room, and then a refusal if more are wanted. Each
-// kind of operand has its own loop: in one for all, LLVM would call the reader for each operand, and such a call takes longer than the reading.
-fn fill_fixed(c0: Cursor, s: &[u8], w: u64, count: u64, rest: &mut [u64]) -> Run
-    ensures { Runs c0 s.now (repeated (length rest.old) count (Fixed w)) count rest.new result }
-{
-    let n = room_for(count, rest.len());
+    let n = count.min(rest.len() as u64) as usize;
     let mut c = c0;
-    let mut i: usize = 0;
-    while i < n {
-        match c.read(s, w) {
-            Read::Refused(e) => {
-                return Run::Refused(e);
-            }
-            Read::Value(v, d) => {
-                rest[i] = v;
-                i = i + 1;
-                c = d;
-            }
-        }
-    }
-    if (n as u64) < count {
-        return Run::Refused(NO_OPERAND_ROOM);
-    }
-    Run::To(c)
-}
-
-// The same for VBR numbers.
-fn fill_vbr(c0: Cursor, s: &[u8], w: u64, count: u64, rest: &mut [u64]) -> Run
-    ensures { Runs c0 s.now (repeated (length rest.old) count (Vbr w)) count rest.new result }
-{
-    let n = room_for(count, rest.len());
-    let mut c = c0;
-    let mut i: usize = 0;
-    while i < n {
-        match c.read_vbr(s, w) {
-            Read::Refused(e) => {
-                return Run::Refused(e);
-            }
-            Read::Value(v, d) => {
-                rest[i] = v;
-                i = i + 1;
-                c = d;
-            }
-        }
-    }
-    if (n as u64) < count {
-        return Run::Refused(NO_OPERAND_ROOM);
-    }
-    Run::To(c)
-}
-
-// The same for letters.
-fn fill_char6(c0: Cursor, s: &[u8], count: u64, rest: &mut [u64]) -> Run
-    ensures { Runs c0 s.now (repeated (length rest.old) count Char6) count rest.new result }
-{
-    let n = room_for(count, rest.len());
-    let mut c = c0;
-    let mut i: usize = 0;
-    while i < n {
-        match bitcode::read_char6(c, s) {
-            Read::Refused(e) => {
-                return Run::Refused(e);
-            }
-            Read::Value(v, d) => {
-                rest[i] = v;
-                i = i + 1;
-                c = d;
-            }
-        }
-    }
-    if (n as u64) < count {
-        return Run::Refused(NO_OPERAND_ROOM);
-    }
-    Run::To(c)
-}
-
-// The same for a literal, which takes no bits.
-fn fill_literal(c: Cursor, v: u64, count: u64, rest: &mut [u64]) -> Run
-    ensures { (s : List ℕ) → Runs c s (repeated (length rest.old) count (Literal v)) count rest.new result }
-{
-    let n = room_for(count, rest.len());
-    let mut i: usize = 0;
-    while i < n {
+    for i in 0..n {
+        let (v, d) = next(c)?;
         rest[i] = v;
-        i = i + 1;
+        c = d;
     }
     if (n as u64) < count {
-        return Run::Refused(NO_OPERAND_ROOM);
+        return Err(Reason::NoOperandRoom);
     }
-    Run::To(c)
+    Ok(c)
 }
 
 // So many operands of one kind, into the part of the operand store that is not filled.
-fn fill_run(c: Cursor, s: &[u8], k: ScalarOperand, count: u64, rest: &mut [u64]) -> Run
+fn fill_run(
+    c: Cursor,
+    s: &[u8],
+    k: ScalarOperand,
+    count: u64,
+    rest: &mut [u64],
+) -> Result<Cursor, Reason>
     ensures { Runs c s.now (repeated (length rest.old) count k) count rest.new result }
 {
     match k {
-        ScalarOperand::Literal(v) => fill_literal(c, v, count, rest),
-        ScalarOperand::Fixed(w) => fill_fixed(c, s, w, count, rest),
-        ScalarOperand::Vbr(w) => fill_vbr(c, s, w, count, rest),
-        ScalarOperand::Char6 => fill_char6(c, s, count, rest),
+        ScalarOperand::Literal(v) => fill(
+            |c: Cursor|
+                ensures { result ≡ Ok (v, c) }
+            { Ok((v, c)) },
+            c,
+            count,
+            rest,
+        ),
+        ScalarOperand::Fixed(w) => fill(
+            |c: Cursor|
+                ensures { Gives c s.entry.now (read w) (of_read result) }
+            { c.read(s, w) },
+            c,
+            count,
+            rest,
+        ),
+        ScalarOperand::Vbr(w) => fill(
+            |c: Cursor|
+                ensures { Gives c s.entry.now (vbr w) (of_read result) }
+            { c.read_vbr(s, w) },
+            c,
+            count,
+            rest,
+        ),
+        ScalarOperand::Char6 => fill(
+            |c: Cursor|
+                ensures { Gives c s.entry.now (value Char6) (of_read result) }
+            { bitcode::read_char6(c, s) },
+            c,
+            count,
+            rest,
+        ),
     }
 }
 
 // A record with no abbreviation: code, count and operands, vbr6.
-fn read_unabbreviated(c: Cursor, s: &[u8], operands: &mut [u64], fill: usize) -> Got
+fn read_unabbreviated(
+    c: Cursor,
+    s: &[u8],
+    operands: &mut [u64],
+    fill: usize,
+) -> Result<(RecordRead, Cursor), Reason>
     requires { fill ≤ length operands.old }
     ensures { Recorded c s.now (plain (length operands.old - fill)) fill operands.old operands.new result }
 {
-    match c.read_vbr(s, 6) {
-        Read::Refused(e) => Got::Refused(e, 0, 0),
-        Read::Value(code, d) => match d.read_vbr(s, 6) {
-            Read::Refused(e) => Got::Refused(e, 0, 0),
-            Read::Value(n, g) => match fill_vbr(g, s, 6, n, &mut operands[fill..]) {
-                Run::Refused(e) => Got::Refused(e, 0, 0),
-                Run::To(h) => Got::Of(
-                    RecordRead {
-                        code,
-                        count: n,
-                        kind: NO_PAYLOAD,
-                        at: 0,
-                        length: 0,
-                        fill: fill + n as usize,
-                    },
-                    h,
-                ),
-            },
-        },
-    }
+    let (code, d) = c.read_vbr(s, 6)?;
+    let (count, g) = d.read_vbr(s, 6)?;
+    let end = fill_run(g, s, ScalarOperand::Vbr(6), count, &mut operands[fill..])?;
+    let r = RecordRead {
+        code,
+        count,
+        kind: NO_PAYLOAD,
+        at: 0,
+        length: 0,
+        fill: fill + count as usize,
+    };
+    Ok((r, end))
 }
 
 // The code and the scalar operands of a record, `count` numbers by the kinds that stand in the slots from `base` on: the code is handed back, the
@@ -444,42 +286,30 @@ fn read_unabbreviated(c: Cursor, s: &[u8], operands: &mut [u64], fill: usize) ->
 fn fill_scalars(
     c0: Cursor,
     s: &[u8],
-    kinds: &[u8; SLOTS],
-    widths: &[u64; SLOTS],
+    tables: &Abbreviations,
     base: usize,
     count: usize,
     rest: &mut [u64],
-) -> Read
-    requires { (length kinds.now ≡ slot_count) × (length widths.now ≡ slot_count) × (base + count ≤ slot_count) × (0 < count) }
-    ensures { Scalars c0 s.now (length rest.old) (slots kinds.now widths.now base count) count rest.new result }
+) -> Result<(u64, Cursor), Reason>
+    requires { Whole (held tables.now) × (base + count ≤ slot_count) × (0 < count) }
+    ensures { Scalars c0 s.now (length rest.old) (slots tables.now.kinds tables.now.widths base count) count rest.new result }
 {
     let mut c = c0;
-    let mut i: usize = 0;
     let mut code: u64 = 0;
-    loop {
-        if count <= i {
-            return Read::Value(code, c);
-        }
+    for i in 0..count {
         if rest.len() < i {
-            return Read::Refused(NO_OPERAND_ROOM);
+            return Err(Reason::NoOperandRoom);
         }
-        let j = base + i;
-        let k = abbrev::scalar_operand(kinds[j], widths[j]);
-        match bitcode::read_scalar_operand(c, s, k) {
-            Read::Refused(e) => {
-                return Read::Refused(e);
-            }
-            Read::Value(v, d) => {
-                if i == 0 {
-                    code = v;
-                } else {
-                    rest[i - 1] = v;
-                }
-                i = i + 1;
-                c = d;
-            }
+        let k = abbrev::scalar_operand(tables.kinds[base + i], tables.widths[base + i]);
+        let (v, d) = bitcode::read_scalar_operand(c, s, k)?;
+        if i == 0 {
+            code = v;
+        } else {
+            rest[i - 1] = v;
         }
+        c = d;
     }
+    Ok((code, c))
 }
 
 // An array's kind of payload.
@@ -488,256 +318,248 @@ fn array_kind(k: ScalarOperand) -> u64
 {
     match k {
         ScalarOperand::Char6 => CHAR6,
-        ScalarOperand::Literal(_) => ARRAY,
-        ScalarOperand::Fixed(_) => ARRAY,
-        ScalarOperand::Vbr(_) => ARRAY,
+        _ => ARRAY,
     }
 }
 
 // An array: its length, vbr6, then its elements behind the operands of the record so far.
-fn read_array(c: Cursor, s: &[u8], k: ScalarOperand, operands: &mut [u64], r: RecordRead) -> Got
+fn read_array(
+    c: Cursor,
+    s: &[u8],
+    k: ScalarOperand,
+    operands: &mut [u64],
+    r: RecordRead,
+) -> Result<(RecordRead, Cursor), Reason>
     requires { r.fill ≤ length operands.old }
     ensures { Loaded c s.now (load (length operands.old - r.fill) (array k)) operands.old operands.new r result }
 {
-    let fill = r.fill;
-    match c.read_vbr(s, 6) {
-        Read::Refused(e) => Got::Refused(e, 0, 0),
-        Read::Value(n, d) => match fill_run(d, s, k, n, &mut operands[fill..]) {
-            Run::Refused(e) => Got::Refused(e, 0, 0),
-            Run::To(g) => Got::Of(
-                RecordRead {
-                    code: r.code,
-                    count: r.count,
-                    kind: array_kind(k),
-                    at: fill as u64,
-                    length: n,
-                    fill: fill + n as usize,
-                },
-                g,
-            ),
-        },
-    }
+    let (length, d) = c.read_vbr(s, 6)?;
+    let end = fill_run(d, s, k, length, &mut operands[r.fill..])?;
+    let read = RecordRead {
+        kind: array_kind(k),
+        at: r.fill as u64,
+        length,
+        fill: r.fill + length as usize,
+        ..r
+    };
+    Ok((read, end))
 }
 
 // A blob's bytes, from a byte's first bit on, and to a multiple of 32 bits.
-fn read_blob_bytes(c: Cursor, s: &[u8], n: u64, r: RecordRead) -> Got
+fn read_blob_bytes(
+    c: Cursor,
+    s: &[u8],
+    size: u64,
+    r: RecordRead,
+) -> Result<(RecordRead, Cursor), Reason>
     requires { c.at % 8 ≡ 0 }
-    ensures { (ops : List ℕ) → r.fill ≤ length ops → Loaded c s.now (blob_bytes n) ops ops r result }
+    ensures { (ops : List ℕ) → r.fill ≤ length ops → Loaded c s.now (blob_bytes size) ops ops r result }
 {
-    match c.skip_bytes(s, n) {
-        Move::Stays(_) => Got::Refused(BUFFER_OVERFLOW, 0, 0),
-        Move::To(d) => match d.align32(s) {
-            Move::Stays(e) => Got::Refused(e, 0, 0),
-            Move::To(g) => Got::Of(
-                RecordRead {
-                    code: r.code,
-                    count: r.count,
-                    kind: BLOB,
-                    at: c.at / 8,
-                    length: n,
-                    fill: r.fill,
-                },
-                g,
-            ),
-        },
-    }
+    let d = c.skip_bytes(s, size)?;
+    let end = d.align32(s)?;
+    let read = RecordRead {
+        kind: BLOB,
+        at: c.at / 8,
+        length: size,
+        ..r
+    };
+    Ok((read, end))
 }
 
 // A blob: its length, vbr6, to a multiple of 32 bits, and its bytes.
-fn read_blob(c: Cursor, s: &[u8], r: RecordRead) -> Got
+fn read_blob(c: Cursor, s: &[u8], r: RecordRead) -> Result<(RecordRead, Cursor), Reason>
     ensures { (left : ℕ) (ops : List ℕ) → r.fill ≤ length ops → Loaded c s.now (load left blob) ops ops r result }
 {
-    match c.read_vbr(s, 6) {
-        Read::Refused(e) => Got::Refused(e, 0, 0),
-        Read::Value(n, d) => match d.align32(s) {
-            Move::Stays(e) => Got::Refused(e, 0, 0),
-            Move::To(g) => read_blob_bytes(g, s, n, r),
-        },
-    }
+    let (n, d) = c.read_vbr(s, 6)?;
+    let g = d.align32(s)?;
+    read_blob_bytes(g, s, n, r)
 }
 
 // A record by the abbreviation of a row: its slots begin at `base`.
 fn read_abbreviated(
     c: Cursor,
     s: &[u8],
-    kinds: &[u8; SLOTS],
-    widths: &[u64; SLOTS],
+    tables: &Abbreviations,
     base: usize,
     shape: u64,
     operands: &mut [u64],
     fill: usize,
-) -> Got
-    requires { (length kinds.now ≡ slot_count) × (length widths.now ≡ slot_count) × (base + row_size ≤ slot_count) × (fill ≤ length operands.old) }
-    ensures { Recorded c s.now (abbreviated (length operands.old - fill) (abbrev_of kinds.now widths.now base shape)) fill operands.old operands.new result }
+) -> Result<(RecordRead, Cursor), Reason>
+    requires { Whole (held tables.now) × (base + row_size ≤ slot_count) × (fill ≤ length operands.old) }
+    ensures { Recorded c s.now (abbreviated (length operands.old - fill) (abbrev_of tables.now.kinds tables.now.widths base shape)) fill operands.old operands.new result }
 {
     let n = (shape % ARRAY_SHAPE) as usize;
-    let l = shape / ARRAY_SHAPE;
     if n == 0 {
-        return Got::Refused(INVALID_ABBREV, 0, 0);
+        return Err(Reason::InvalidAbbrev);
     }
-    match fill_scalars(c, s, kinds, widths, base, n, &mut operands[fill..]) {
-        Read::Refused(e) => Got::Refused(e, 0, 0),
-        Read::Value(code, g) => {
-            let r = RecordRead {
-                code,
-                count: (n - 1) as u64,
-                kind: NO_PAYLOAD,
-                at: 0,
-                length: 0,
-                fill: fill + (n - 1),
-            };
-            if l == 0 {
-                return Got::Of(r, g);
-            }
-            if l == 1 {
-                let k = abbrev::scalar_operand(kinds[base + n], widths[base + n]);
-                return read_array(g, s, k, operands, r);
-            }
-            read_blob(g, s, r)
+    let (code, g) = fill_scalars(c, s, tables, base, n, &mut operands[fill..])?;
+    let r = RecordRead {
+        code,
+        count: (n - 1) as u64,
+        kind: NO_PAYLOAD,
+        at: 0,
+        length: 0,
+        fill: fill + (n - 1),
+    };
+    match shape / ARRAY_SHAPE {
+        0 => Ok((r, g)),
+        1 => {
+            let k = abbrev::scalar_operand(tables.kinds[base + n], tables.widths[base + n]);
+            read_array(g, s, k, operands, r)
         }
+        _ => read_blob(g, s, r),
     }
 }
 
 // The end of a head: the body's length in words; the body must lie within the parent.
-fn read_body_length(c: Cursor, s: &[u8], b: u64, w: u64) -> HeadRead
-    ensures { Heads c s.now (head_length b w) result }
+fn read_body_length(
+    c: Cursor,
+    s: &[u8],
+    block: u64,
+    width: u64,
+) -> Result<(BlockHead, Cursor), Reason>
+    ensures { Heads c s.now (head_length block width) result }
 {
-    match c.read(s, 32) {
-        Read::Refused(e) => HeadRead::Refused(e, 0, 0),
-        Read::Value(n, d) => {
-            if d.unconsumed_bit_len(s) / 32 < n {
-                return HeadRead::Refused(BUFFER_OVERFLOW, 0, 0);
-            }
-            HeadRead::At(b, w, 4 * n, d)
-        }
+    let (n, d) = c.read(s, 32)?;
+    if d.unconsumed_bit_len(s) / 32 < n {
+        return Err(Reason::BufferOverflow);
     }
+    let head = BlockHead {
+        block,
+        width,
+        length: 4 * n,
+    };
+    Ok((head, d))
 }
 
 // A head behind its block number: width, vbr4, to a multiple of 32 bits, and the body's length.
-fn read_head_width(c: Cursor, s: &[u8], b: u64) -> HeadRead
-    ensures { Heads c s.now (head_width b) result }
+fn read_head_width(c: Cursor, s: &[u8], block: u64) -> Result<(BlockHead, Cursor), Reason>
+    ensures { Heads c s.now (head_width block) result }
 {
-    match c.read_vbr(s, 4) {
-        Read::Refused(e) => HeadRead::Refused(e, 0, 0),
-        Read::Value(w, d) => match d.align32(s) {
-            Move::Stays(e) => HeadRead::Refused(e, 0, 0),
-            Move::To(g) => read_body_length(g, s, b, w),
-        },
-    }
+    let (width, d) = c.read_vbr(s, 4)?;
+    let g = d.align32(s)?;
+    read_body_length(g, s, block, width)
 }
 
 // A block's head, whose body lies within its parent.
-fn read_head(c: Cursor, s: &[u8]) -> HeadRead
+fn read_head(c: Cursor, s: &[u8]) -> Result<(BlockHead, Cursor), Reason>
     ensures { Heads c s.now head_fits result }
 {
-    match c.read_vbr(s, 8) {
-        Read::Refused(e) => HeadRead::Refused(e, 0, 0),
-        Read::Value(b, d) => {
-            if 0x1_0000_0000 <= b {
-                return HeadRead::Refused(BLOCK_NUMBER_TOO_LARGE, b, 0);
-            }
-            read_head_width(d, s, b)
-        }
+    let (block, d) = c.read_vbr(s, 8)?;
+    if 0x1_0000_0000 <= block {
+        return Err(Reason::BlockNumberTooLarge(block));
     }
+    read_head_width(d, s, block)
 }
 
 // At the end of the bits: the top level ends; a block has no end mark.
-fn end_of(f: Frame, m: Marks) -> Step
-    ensures { (s skip own ev ops : List ℕ) (t : Tables) → Sits (length ev) (length ops) f m → limit s f.end ≤ m.at → Does s skip f m own t t ev ev ops ops (opening_of s f m own t (length ev) (length ops)) result }
+fn end_of(f: Frame, m: Marks) -> Result<Step, Reason>
+    ensures { (s skip own ev ops : List ℕ) (t : Tables) → Sits (length ev) (length ops) f m → limit s f.end ≤ m.at → DoesIn s skip f m own t t ev ev ops ops (opening_of s f m own t (length ev) (length ops)) result }
 {
     if f.top {
-        return Step::End(m.with_local(f.base));
+        return Ok(Step::End(Marks { local: f.base, ..m }));
     }
-    Step::No(refuse(MISSING_END_BLOCK, m.at, f.number, 0))
+    Err(Reason::MissingEndBlock(f.number))
 }
 
 // Number 0: align, and leave.
-fn leave(s: &[u8], f: Frame, m: Marks, d: Cursor, events: &mut [u64]) -> Step
+fn leave(s: &[u8], f: Frame, m: Marks, d: Cursor, events: &mut [u64]) -> Result<Step, Reason>
     requires { (m.events ≤ length events.old) × Behind f d }
-    ensures { (skip own ops : List ℕ) (t : Tables) → Sits (length events.old) (length ops) f m → Does s.now skip f m own t t events.old events.new ops ops (numbered_of s.now f m own t (length events.old) (length ops) 0 d) result }
+    ensures { (skip own ops : List ℕ) (t : Tables) → Sits (length events.old) (length ops) f m → DoesIn s.now skip f m own t t events.old events.new ops ops (numbered_of s.now f m own t (length events.old) (length ops) 0 d) result }
 {
-    let at = m.at;
-    let ev = m.events;
-    match d.align32(s) {
-        Move::Stays(e) => Step::No(refuse(e, at, 0, 0)),
-        Move::To(g) => {
-            if f.top {
-                return Step::End(m.behind(g.at).with_local(f.base));
-            }
-            if events.len() - ev < EVENT_SIZE {
-                return Step::No(refuse(NO_EVENT_ROOM, at, 0, 0));
-            }
-            let e = Entry {
-                kind: LEAVE,
-                block: f.number,
-                a: 0,
-                b: 0,
-                c: 0,
-                d: 0,
-                e: 0,
-                f: 0,
-            };
-            put_event(events, ev, e);
-            Step::End(m.told(g.at).with_local(f.base))
-        }
+    let g = d.align32(s)?;
+    let behind = Marks {
+        at: g.at,
+        local: f.base,
+        ..m
+    };
+    if f.top {
+        return Ok(Step::End(behind));
     }
+    put_event(events, m.events, [LEAVE, f.number, 0, 0, 0, 0, 0, 0])?;
+    let events = m.events + EVENT_SIZE;
+    Ok(Step::End(Marks { events, ..behind }))
 }
 
 // A BLOCKINFO: what it adds stands in the shared rows behind it, and it gives no event.
 fn read_info(
     s: &[u8],
-    f: Frame,
     m: Marks,
-    w: u64,
-    n: u64,
+    head: BlockHead,
     g: Cursor,
-    kinds: &mut [u8; SLOTS],
-    widths: &mut [u64; SLOTS],
-    shapes: &mut [u64; ROWS],
-    owners: &mut [u64; MAX_SHARED],
-) -> Step
-    requires whole { Whole (tables kinds.old widths.old shapes.old owners.old) }
-    requires in_range { (m.shared ≤ max_shared) × (f.base ≤ m.local) × (m.local ≤ max_local) × (g.at + 8 * n ≤ 18446744073709551615) }
-    ensures kept { Kept m.shared m.local (tables kinds.old widths.old shapes.old owners.old) (tables kinds.new widths.new shapes.new owners.new) }
-    ensures does { (skip own ev ops : List ℕ) → Below m.shared own → Sits (length ev) (length ops) f m → Does s.now skip f m own (tables kinds.old widths.old shapes.old owners.old) (tables kinds.new widths.new shapes.new owners.new) ev ev ops ops (headed_at m 0 w n g) result }
+    tables: &mut Abbreviations,
+) -> Result<Step, Refused>
+    requires whole { Whole (held tables.old) }
+    requires in_range { (m.shared ≤ max_shared) × (m.local ≤ max_local) × (g.at + 8 * head.length ≤ 18446744073709551615) }
+    ensures kept { Kept m.shared m.local (held tables.old) (held tables.new) }
+    ensures does { (f : Frame) (skip own ev ops : List ℕ) → Below m.shared own → Sits (length ev) (length ops) f m → Does s.now skip f m own (held tables.old) (held tables.new) ev ev ops ops (headed_at m 0 head.width head.length g) result }
 {
     let c = Cursor {
         at: g.at,
-        end: g.at / 8 + n,
+        end: g.at / 8 + head.length,
     };
-    match abbrev::read_block_info_block(c, s, w, kinds, widths, shapes, owners, m.shared) {
-        Info::Refused(e, place, x, y) => Step::No(refuse(e, place, x, y)),
-        Info::Shared(have) => Step::Go(m.sharing(g.at + 8 * n, have)),
-    }
+    let shared = abbrev::read_block_info_block(
+        c,
+        s,
+        head.width,
+        &mut tables.kinds,
+        &mut tables.widths,
+        &mut tables.shapes,
+        &mut tables.owners,
+        m.shared,
+    )?;
+    Ok(Step::Go(Marks {
+        at: g.at + 8 * head.length,
+        shared,
+        ..m
+    }))
 }
 
 // A block of the skip list: a skip event, and its body stays unread.
-fn pass_over(m: Marks, b: u64, w: u64, n: u64, g: Cursor, events: &mut [u64]) -> Step
-    requires { (m.events ≤ length events.old) × (g.at + 8 * n ≤ 18446744073709551615) }
-    ensures { (s skip own ops : List ℕ) (f : Frame) (t : Tables) → (b ≡ 0 → ⊥) → listed_in b skip ≡ true → Sits (length events.old) (length ops) f m → Does s skip f m own t t events.old events.new ops ops (headed_at m b w n g) result }
+fn pass_over(m: Marks, head: BlockHead, g: Cursor, events: &mut [u64]) -> Result<Step, Reason>
+    requires { (m.events ≤ length events.old) × (g.at + 8 * head.length ≤ 18446744073709551615) }
+    ensures { (s skip own ops : List ℕ) (f : Frame) (t : Tables) → (head.block ≡ 0 → ⊥) → listed_in head.block skip ≡ true → Sits (length events.old) (length ops) f m → DoesIn s skip f m own t t events.old events.new ops ops (headed_at m head.block head.width head.length g) result }
 {
-    let ev = m.events;
-    if events.len() - ev < EVENT_SIZE {
-        return Step::No(refuse(NO_EVENT_ROOM, m.at, 0, 0));
-    }
-    put_event(events, ev, block_entry(SKIP, b, w, g.at / 8, n));
-    Step::Go(m.told(g.at + 8 * n))
+    let e = [SKIP, head.block, head.width, g.at / 8, head.length, 0, 0, 0];
+    put_event(events, m.events, e)?;
+    Ok(Step::Go(Marks {
+        at: g.at + 8 * head.length,
+        events: m.events + EVENT_SIZE,
+        ..m
+    }))
 }
 
 // A block that is entered, up to its body.
-fn open_block(f: Frame, m: Marks, b: u64, w: u64, n: u64, g: Cursor, events: &mut [u64]) -> Step
+fn open_block(
+    f: Frame,
+    m: Marks,
+    head: BlockHead,
+    g: Cursor,
+    events: &mut [u64],
+) -> Result<Step, Reason>
     requires { m.events ≤ length events.old }
-    ensures { (s skip own ops : List ℕ) (t : Tables) → (b ≡ 0 → ⊥) → listed_in b skip ≡ false → Sits (length events.old) (length ops) f m → g.at + 8 * n ≤ limit s f.end → Does s skip f m own t t events.old events.new ops ops (headed_at m b w n g) result }
+    ensures { (s skip own ops : List ℕ) (t : Tables) → (head.block ≡ 0 → ⊥) → listed_in head.block skip ≡ false → Sits (length events.old) (length ops) f m → g.at + 8 * head.length ≤ limit s f.end → DoesIn s skip f m own t t events.old events.new ops ops (headed_at m head.block head.width head.length g) result }
 {
-    let ev = m.events;
     if f.left == 0 {
-        return Step::No(refuse(TOO_DEEP, m.at, b, 0));
+        return Err(Reason::TooDeep(head.block));
     }
-    if events.len() - ev < EVENT_SIZE {
-        return Step::No(refuse(NO_EVENT_ROOM, m.at, 0, 0));
-    }
-    put_event(events, ev, block_entry(ENTER, b, w, g.at / 8, n));
-    Step::Into(m.told(g.at), b, w, n)
+    let e = [
+        ENTER,
+        head.block,
+        head.width,
+        g.at / 8,
+        head.length,
+        0,
+        0,
+        0,
+    ];
+    put_event(events, m.events, e)?;
+    let inside = Marks {
+        at: g.at,
+        events: m.events + EVENT_SIZE,
+        ..m
+    };
+    Ok(Step::Into(inside, head))
 }
 
 // Number 1: a nested block, up to its body.
@@ -747,29 +569,22 @@ fn enter_sub_block(
     f: Frame,
     m: Marks,
     d: Cursor,
-    kinds: &mut [u8; SLOTS],
-    widths: &mut [u64; SLOTS],
-    shapes: &mut [u64; ROWS],
-    owners: &mut [u64; MAX_SHARED],
+    tables: &mut Abbreviations,
     events: &mut [u64],
-) -> Step
-    requires whole { Whole (tables kinds.old widths.old shapes.old owners.old) }
+) -> Result<Step, Refused>
+    requires whole { Whole (held tables.old) }
     requires events_in_range { (m.events ≤ length events.old) × (m.shared ≤ max_shared) × (f.base ≤ m.local) × (m.local ≤ max_local) × Behind f d }
-    ensures kept { Kept m.shared m.local (tables kinds.old widths.old shapes.old owners.old) (tables kinds.new widths.new shapes.new owners.new) }
-    ensures does { (own ops : List ℕ) → Below m.shared own → Sits (length events.old) (length ops) f m → Does s.now skip.now f m own (tables kinds.old widths.old shapes.old owners.old) (tables kinds.new widths.new shapes.new owners.new) events.old events.new ops ops (numbered_of s.now f m own (tables kinds.old widths.old shapes.old owners.old) (length events.old) (length ops) 1 d) result }
+    ensures kept { Kept m.shared m.local (held tables.old) (held tables.new) }
+    ensures does { (own ops : List ℕ) → Below m.shared own → Sits (length events.old) (length ops) f m → Does s.now skip.now f m own (held tables.old) (held tables.new) events.old events.new ops ops (numbered_of s.now f m own (held tables.old) (length events.old) (length ops) 1 d) result }
 {
-    match read_head(d, s) {
-        HeadRead::Refused(e, x, y) => Step::No(refuse(e, m.at, x, y)),
-        HeadRead::At(b, w, n, g) => {
-            if b == 0 {
-                return read_info(s, f, m, w, n, g, kinds, widths, shapes, owners);
-            }
-            if listed(skip, b) {
-                return pass_over(m, b, w, n, g, events);
-            }
-            open_block(f, m, b, w, n, g, events)
-        }
+    let (head, g) = m.placed(read_head(d, s))?;
+    if head.block == 0 {
+        return read_info(s, m, head, g, tables);
     }
+    if skip.contains(&head.block) {
+        return m.placed(pass_over(m, head, g, events));
+    }
+    m.placed(open_block(f, m, head, g, events))
 }
 
 // Number 2: a local definition. It is read into the next local row; its room is tested behind it.
@@ -778,51 +593,48 @@ fn define_local(
     f: Frame,
     m: Marks,
     d: Cursor,
-    kinds: &mut [u8; SLOTS],
-    widths: &mut [u64; SLOTS],
-    shapes: &mut [u64; ROWS],
-) -> Step
-    requires sized { (length kinds.old ≡ slot_count) × (length widths.old ≡ slot_count) × (length shapes.old ≡ row_count) }
+    tables: &mut Abbreviations,
+) -> Result<Step, Reason>
+    requires whole { Whole (held tables.old) }
     requires in_range { (m.shared ≤ max_shared) × (f.base ≤ m.local) × (m.local ≤ max_local) × Behind f d }
-    ensures kept { (ow : List ℕ) → Kept m.shared m.local (tables kinds.old widths.old shapes.old ow) (tables kinds.new widths.new shapes.new ow) }
-    ensures does { (skip own ev ops ow : List ℕ) → Below m.shared own → Sits (length ev) (length ops) f m → Does s.now skip f m own (tables kinds.old widths.old shapes.old ow) (tables kinds.new widths.new shapes.new ow) ev ev ops ops (numbered_of s.now f m own (tables kinds.old widths.old shapes.old ow) (length ev) (length ops) 2 d) result }
+    ensures kept { Kept m.shared m.local (held tables.old) (held tables.new) }
+    ensures does { (skip own ev ops : List ℕ) → Below m.shared own → Sits (length ev) (length ops) f m → DoesIn s.now skip f m own (held tables.old) (held tables.new) ev ev ops ops (numbered_of s.now f m own (held tables.old) (length ev) (length ops) 2 d) result }
 {
-    let at = m.at;
-    let local = m.local;
-    let row = LOCAL + local;
-    match abbrev::define_abbrev(d, s, kinds, widths, row) {
-        Defined::Refused(n, x, y) => Step::No(refuse(n, at, x, y)),
-        Defined::Shape(shape, g) => {
-            if MAX_LOCAL <= local {
-                return Step::No(refuse(NO_ABBREVIATION_ROOM, at, 0, 0));
-            }
-            shapes[row] = shape;
-            Step::Go(m.behind(g.at).with_local(local + 1))
-        }
+    let row = LOCAL + m.local;
+    let (shape, g) = abbrev::define_abbrev(d, s, &mut tables.kinds, &mut tables.widths, row)?;
+    if MAX_LOCAL <= m.local {
+        return Err(Reason::NoAbbreviationRoom);
     }
+    tables.shapes[row] = shape;
+    Ok(Step::Go(Marks {
+        at: g.at,
+        local: m.local + 1,
+        ..m
+    }))
 }
 
 // A record's event, where there is room for one.
-fn tell_record(f: Frame, m: Marks, r: RecordRead, at: u64, events: &mut [u64]) -> Step
+fn tell_record(
+    f: Frame,
+    m: Marks,
+    r: RecordRead,
+    at: u64,
+    events: &mut [u64],
+) -> Result<Step, Reason>
     requires { m.events ≤ length events.old }
     ensures { Tells f m r at events.old events.new result }
 {
-    let ev = m.events;
-    if events.len() - ev < EVENT_SIZE {
-        return Step::No(refuse(NO_EVENT_ROOM, m.at, 0, 0));
-    }
-    let e = Entry {
-        kind: RECORD,
-        block: f.number,
-        a: r.code,
-        b: m.operands as u64,
-        c: r.count,
-        d: r.kind,
-        e: r.at,
-        f: r.length,
-    };
-    put_event(events, ev, e);
-    Step::Go(m.recorded(at, r.fill))
+    let first = m.operands as u64;
+    let e = [
+        RECORD, f.number, r.code, first, r.count, r.kind, r.at, r.length,
+    ];
+    put_event(events, m.events, e)?;
+    Ok(Step::Go(Marks {
+        at,
+        events: m.events + EVENT_SIZE,
+        operands: r.fill,
+        ..m
+    }))
 }
 
 // Number 3: a record with no abbreviation.
@@ -833,15 +645,12 @@ fn record_plain(
     d: Cursor,
     events: &mut [u64],
     operands: &mut [u64],
-) -> Step
+) -> Result<Step, Reason>
     requires { Sits (length events.old) (length operands.old) f m × Behind f d }
-    ensures { (skip own : List ℕ) (t : Tables) → Does s.now skip f m own t t events.old events.new operands.old operands.new (numbered_of s.now f m own t (length events.old) (length operands.old) 3 d) result }
+    ensures { (skip own : List ℕ) (t : Tables) → DoesIn s.now skip f m own t t events.old events.new operands.old operands.new (numbered_of s.now f m own t (length events.old) (length operands.old) 3 d) result }
 {
-    let fill = m.operands;
-    match read_unabbreviated(d, s, operands, fill) {
-        Got::Refused(n, x, y) => Step::No(refuse(n, m.at, x, y)),
-        Got::Of(r, g) => tell_record(f, m, r, g.at, events),
-    }
+    let (r, g) = read_unabbreviated(d, s, operands, m.operands)?;
+    tell_record(f, m, r, g.at, events)
 }
 
 // A number from 4 on: a record by its abbreviation.
@@ -852,33 +661,18 @@ fn record_abbreviated(
     own: &[u8],
     n: u64,
     d: Cursor,
-    kinds: &[u8; SLOTS],
-    widths: &[u64; SLOTS],
-    shapes: &[u64; ROWS],
+    tables: &Abbreviations,
     events: &mut [u64],
     operands: &mut [u64],
-) -> Step
-    requires sized { (length kinds.now ≡ slot_count) × (length widths.now ≡ slot_count) × (length shapes.now ≡ row_count) }
+) -> Result<Step, Reason>
+    requires whole { Whole (held tables.now) }
     requires sits { Sits (length events.old) (length operands.old) f m × Behind f d × (4 ≤ n) × Below m.shared own.now }
-    ensures { (skip ow : List ℕ) → Does s.now skip f m own.now (tables kinds.now widths.now shapes.now ow) (tables kinds.now widths.now shapes.now ow) events.old events.new operands.old operands.new (numbered_of s.now f m own.now (tables kinds.now widths.now shapes.now ow) (length events.old) (length operands.old) n d) result }
+    ensures { (skip : List ℕ) → DoesIn s.now skip f m own.now (held tables.now) (held tables.now) events.old events.new operands.old operands.new (numbered_of s.now f m own.now (held tables.now) (length events.old) (length operands.old) n d) result }
 {
-    let fill = m.operands;
-    match abbrev::look_up(BlockNumber(f.number), AbbrevNumber(n), own, f.base, m.local) {
-        Row::Refused(e, x, y) => Step::No(refuse(e, m.at, x, y)),
-        Row::At(row) => match read_abbreviated(
-            d,
-            s,
-            kinds,
-            widths,
-            ROW * row,
-            shapes[row],
-            operands,
-            fill,
-        ) {
-            Got::Refused(e, x, y) => Step::No(refuse(e, m.at, x, y)),
-            Got::Of(r, g) => tell_record(f, m, r, g.at, events),
-        },
-    }
+    let row = abbrev::look_up(BlockNumber(f.number), AbbrevNumber(n), own, f.base, m.local)?;
+    let shape = tables.shapes[row];
+    let (r, g) = read_abbreviated(d, s, tables, ROW * row, shape, operands, m.operands)?;
+    tell_record(f, m, r, g.at, events)
 }
 
 // The next item of a block. `own` are the shared rows that were for the block when it was entered.
@@ -888,34 +682,29 @@ fn try_next(
     f: Frame,
     m: Marks,
     own: &[u8],
-    kinds: &mut [u8; SLOTS],
-    widths: &mut [u64; SLOTS],
-    shapes: &mut [u64; ROWS],
-    owners: &mut [u64; MAX_SHARED],
+    tables: &mut Abbreviations,
     ev: &mut [u64],
     ops: &mut [u64],
-) -> Step
-    requires whole { Whole (tables kinds.old widths.old shapes.old owners.old) }
+) -> Result<Step, Refused>
+    requires whole { Whole (held tables.old) }
     requires sits { Sits (length ev.old) (length ops.old) f m × Below m.shared own.now }
-    ensures kept { Kept m.shared m.local (tables kinds.old widths.old shapes.old owners.old) (tables kinds.new widths.new shapes.new owners.new) }
-    ensures does { Does s.now skip.now f m own.now (tables kinds.old widths.old shapes.old owners.old) (tables kinds.new widths.new shapes.new owners.new) ev.old ev.new ops.old ops.new (opening_of s.now f m own.now (tables kinds.old widths.old shapes.old owners.old) (length ev.old) (length ops.old)) result }
+    ensures kept { Kept m.shared m.local (held tables.old) (held tables.new) }
+    ensures does { Does s.now skip.now f m own.now (held tables.old) (held tables.new) ev.old ev.new ops.old ops.new (opening_of s.now f m own.now (held tables.old) (length ev.old) (length ops.old)) result }
 {
     let c = Cursor {
         at: m.at,
         end: f.end,
     };
     if c.is_at_end(s) {
-        return end_of(f, m);
+        return m.placed(end_of(f, m));
     }
-    match abbrev::read_number(c, s, f.width) {
-        Read::Refused(e) => Step::No(refuse(e, m.at, 0, 0)),
-        Read::Value(n, d) => match n {
-            0 => leave(s, f, m, d, ev),
-            1 => enter_sub_block(s, skip, f, m, d, kinds, widths, shapes, owners, ev),
-            2 => define_local(s, f, m, d, kinds, widths, shapes),
-            3 => record_plain(s, f, m, d, ev, ops),
-            _ => record_abbreviated(s, f, m, own, n, d, kinds, widths, shapes, ev, ops),
-        },
+    let (n, d) = m.placed(abbrev::read_number(c, s, f.width))?;
+    match n {
+        0 => m.placed(leave(s, f, m, d, ev)),
+        1 => enter_sub_block(s, skip, f, m, d, tables, ev),
+        2 => m.placed(define_local(s, f, m, d, tables)),
+        3 => m.placed(record_plain(s, f, m, d, ev, ops)),
+        _ => m.placed(record_abbreviated(s, f, m, own, n, d, tables, ev, ops)),
     }
 }
 
@@ -926,57 +715,50 @@ fn visit_block(
     skip: &[u64],
     f: Frame,
     m: Marks,
-    kinds: &mut [u8; SLOTS],
-    widths: &mut [u64; SLOTS],
-    shapes: &mut [u64; ROWS],
-    owners: &mut [u64; MAX_SHARED],
+    tables: &mut Abbreviations,
     ev: &mut [u64],
     ops: &mut [u64],
-) -> Done
-    requires whole { Whole (tables kinds.old widths.old shapes.old owners.old) }
+) -> Result<Marks, Refused>
+    requires whole { Whole (held tables.old) }
     requires sits { Sits (length ev.old) (length ops.old) f m × (m.local ≡ f.base) }
-    ensures kept { Kept m.shared m.local (tables kinds.old widths.old shapes.old owners.old) (tables kinds.new widths.new shapes.new owners.new) }
-    ensures is { Is s.now skip.now f m (tables kinds.old widths.old shapes.old owners.old) (tables kinds.new widths.new shapes.new owners.new) ev.old ev.new ops.old ops.new result }
+    ensures kept { Kept m.shared m.local (held tables.old) (held tables.new) }
+    ensures is { Is s.now skip.now f m (held tables.old) (held tables.new) ev.old ev.new ops.old ops.new result }
 {
     let mut rows = [0u8; MAX_SHARED];
-    let many = abbrev::shared_rows(BlockNumber(f.number), owners, m.shared, &mut rows);
+    let many = abbrev::shared_rows(BlockNumber(f.number), &tables.owners, m.shared, &mut rows);
     let own = &rows[0..many];
     let mut st = m;
     loop {
-        match try_next(s, skip, f, st, own, kinds, widths, shapes, owners, ev, ops) {
+        let step = try_next(s, skip, f, st, own, tables, ev, ops)?;
+        match step {
             Step::Go(t) => {
                 st = t;
             }
-            Step::Into(t, b, w, n) => {
-                let inner = f.inside(t, b, w, n);
-                match visit_block(s, skip, inner, t, kinds, widths, shapes, owners, ev, ops) {
-                    Done::Go(u) => {
-                        st = u.behind(t.at + 8 * n);
-                    }
-                    Done::No(x) => {
-                        return Done::No(x);
-                    }
-                }
+            Step::Into(t, head) => {
+                let inner = f.inside(t, head);
+                let u = visit_block(s, skip, inner, t, tables, ev, ops)?;
+                st = Marks {
+                    at: t.at + 8 * head.length,
+                    ..u
+                };
             }
             Step::End(t) => {
-                return Done::Go(t);
-            }
-            Step::No(x) => {
-                return Done::No(x);
+                return Ok(t);
             }
         }
     }
 }
 
 // The whole stream: the top level, with no abbreviation.
-fn walk_stream(s: &[u8], skip: &[u64], events: &mut [u64], operands: &mut [u64]) -> Done
+fn walk_stream(
+    s: &[u8],
+    skip: &[u64],
+    events: &mut [u64],
+    operands: &mut [u64],
+) -> Result<Marks, Refused>
     ensures { Streams s.now skip.now events.old events.new operands.old operands.new result }
 {
-    let state = Abbreviations::new();
-    let mut kinds = state.kinds;
-    let mut widths = state.widths;
-    let mut shapes = state.shapes;
-    let mut owners = state.owners;
+    let mut tables = Abbreviations::new();
     let f = Frame {
         number: TOP_LEVEL_BLOCK_ID,
         width: 2,
@@ -989,21 +771,10 @@ fn walk_stream(s: &[u8], skip: &[u64], events: &mut [u64], operands: &mut [u64])
         at: 0,
         events: 0,
         operands: 0,
-        shared: state.shared,
-        local: state.local,
+        shared: tables.shared,
+        local: tables.local,
     };
-    visit_block(
-        s,
-        skip,
-        f,
-        m,
-        &mut kinds,
-        &mut widths,
-        &mut shapes,
-        &mut owners,
-        events,
-        operands,
-    )
+    visit_block(s, skip, f, m, &mut tables, events, operands)
 }
 
 // Zero from a place on.
@@ -1011,69 +782,56 @@ fn clear(store: &mut [u64], from: usize)
     requires { from ≤ length store.old }
     ensures { store.new ≡ take from store.old ++ replicate (length store.old - from) 0 }
 {
-    let mut i = from;
-    while i < store.len() {
-        store[i] = 0;
-        i = i + 1;
-    }
+    store[from..].fill(0);
 }
 
 // A refused walk: both stores all zero.
-fn deny(x: Refused, events: &mut [u64], operands: &mut [u64]) -> Walked
-    ensures { Denies x (length events.old) (length operands.old) result events.new operands.new }
+fn deny(refused: Refused, events: &mut [u64], operands: &mut [u64]) -> Result<Accepted, Refused>
+    ensures { Denies refused (length events.old) (length operands.old) result events.new operands.new }
 {
     clear(events, 0);
     clear(operands, 0);
-    Walked {
-        status: x.number,
-        place: x.place,
-        first: x.first,
-        second: x.second,
-        header: Signature {
-            magic: 0,
-            magic2: 0,
-            version: 0,
-            offset: 0,
-            size: 0,
-            cpu: 0,
-        },
-        events: 0,
-        operands: 0,
-    }
+    Err(refused)
 }
 
 // An accepted walk: zero behind the last event and operand.
-fn accept(h: Signature, m: Marks, events: &mut [u64], operands: &mut [u64]) -> Walked
+fn accept(
+    header: Signature,
+    m: Marks,
+    events: &mut [u64],
+    operands: &mut [u64],
+) -> Result<Accepted, Refused>
     requires { (m.events ≤ length events.old) × (m.operands ≤ length operands.old) }
-    ensures { Accepts h m events.old operands.old result events.new operands.new }
+    ensures { Accepts header m events.old operands.old result events.new operands.new }
 {
     clear(events, m.events);
     clear(operands, m.operands);
-    Walked {
-        status: 0,
-        place: 0,
-        first: 0,
-        second: 0,
-        header: h,
+    Ok(Accepted {
+        header,
         events: (m.events / EVENT_SIZE) as u64,
         operands: m.operands as u64,
-    }
+    })
 }
 
 // The walk of an input, with the numbers of the blocks to skip and the two stores lent.
-pub fn walk(input: &[u8], skip: &[u64], events: &mut [u64], operands: &mut [u64]) -> Walked
-    ensures answer { result ≡ answer (walked input.now skip.now (length events.old) (length operands.old)) }
+pub fn walk(
+    input: &[u8],
+    skip: &[u64],
+    events: &mut [u64],
+    operands: &mut [u64],
+) -> Result<Accepted, Refused>
+    ensures answer { numbers_of result ≡ answer (walked input.now skip.now (length events.old) (length operands.old)) }
     ensures events { events.new ≡ (walked input.now skip.now (length events.old) (length operands.old)).event_store }
     ensures operands { operands.new ≡ (walked input.now skip.now (length events.old) (length operands.old)).operand_store }
 {
     if MAX_INPUT < input.len() as u64 {
-        return deny(refuse(INPUT_TOO_LONG, 0, 0, 0), events, operands);
+        return deny(Reason::InputTooLong.at(0), events, operands);
     }
     match Signature::parse(input) {
-        Parsed::Refused(e) => deny(refuse(e, 0, 0, 0), events, operands),
-        Parsed::Signed(h) => match walk_stream(Signature::stream(input), skip, events, operands) {
-            Done::No(x) => deny(x, events, operands),
-            Done::Go(m) => accept(h, m, events, operands),
+        Err(reason) => deny(reason.at(0), events, operands),
+        Ok(h) => match walk_stream(Signature::stream(input), skip, events, operands) {
+            Err(refused) => deny(refused, events, operands),
+            Ok(m) => accept(h, m, events, operands),
         },
     }
 }

@@ -1,7 +1,6 @@
 -- `abbrev::look_up` meets its contract: the tests in their order say which row the number stands for, if any. Assumes nothing.
 use mathlib.Core.Logic.{⊎_elim}
 use native.Mathlib.Omega.{arith}
-use Prim.Native.Nat.{◌-◌}
 use Rattle.abbrev.proofs.Held.{row_low, row_own, row_local, row_past}
 use Rattle.abbrev.proofs.look_up.Goals as goal
 
@@ -9,9 +8,6 @@ pub returns-then-n-lt4 : goal.returns-then-n-lt4
 returns-then-n-lt4 c =
     let a = c.args in
     rw (row_low a.shared.now a.base a.local a.number.0 c.if-n-lt4.true)
-
-pub overflow_cast-result : goal.overflow_cast-result
-overflow_cast-result c = record { fits = omega (arith, c.type_inv.shared (c.args.number.0 - 4)) }
 
 pub returns-then-i-own : goal.returns-then-i-own
 returns-then-i-own c =

@@ -1,47 +1,50 @@
 -- `abbrev::read_info_item` meets its contract: a number, then what the number says. Assumes nothing.
 use mathlib.Core.Path.{refl}
+use native.Mathlib.Omega.{arith}
 use borrow.Author.Tests.{ne_eqb}
 use Rattle.bits.specs.Reader.{stop, when◌then◌else◌}
-use Rattle.bits.proofs.Steps.{on, then_off, off, ends}
+use Rattle.bits.proofs.Steps.{on, then_off, off, ends, handed}
 use Rattle.abbrev.specs.BlockInfo.{info_numbered, info_item}
-use Rattle.abbrev.proofs.Rows.{outside_refl}
+use Rattle.abbrev.specs.Tables.{InfoDoes}
 use Rattle.abbrev.proofs.Infos.{item_does}
 use Rattle.abbrev.proofs.read_info_item.Goals as goal
 
-pub returns-in-Refused : goal.returns-in-Refused
+pub returns-in_err-n-clause-does : goal.returns-in_err-n-clause-does
 unfolding info_item
-returns-in-Refused c = record { kept = (outside_refl _ _ _, outside_refl _ _ _); does = off _ (rw c.in-Refused.is at c.read_number.ensures) }
+returns-in_err-n-clause-does c = handed (InfoDoes _ _ _ c.args.kinds.now c.args.widths.now c.args.have) _ c.from_residual.ensures.1 (off _ c.in_err-n.ensures)
 
-pub returns-in-Stays : goal.returns-in-Stays
+pub returns-in_err-e-in-0-clause-does : goal.returns-in_err-e-in-0-clause-does
+unfolding info_item info_numbered when◌then◌else◌
+returns-in_err-e-in-0-clause-does c =
+    handed (InfoDoes _ _ _ c.args.kinds.now c.args.widths.now c.args.have) _ c.from_residual-in_err-e-in-0.ensures.1
+    (then_off _ c.in_ok-n.ensures (rw c.in-0.is (off _ c.in_err-e-in-0.ensures)))
+
+pub returns-in_ok-e-in-0-clause-does : goal.returns-in_ok-e-in-0-clause-does
+unfolding info_item info_numbered when◌then◌else◌
+returns-in_ok-e-in-0-clause-does c = on _ c.in_ok-n.ensures (rw c.in-0.is (on _ c.in_ok-e-in-0.ensures ends))
+
+pub returns-in-1-clause-does : goal.returns-in-1-clause-does
 unfolding info_item info_numbered when◌then◌else◌ stop
-returns-in-Stays c = record { kept = (outside_refl _ _ _, outside_refl _ _ _); does = then_off _ (rw c.in-Value.is at c.read_number.ensures) (rw c.in-0.is (off _ (rw c.in-Stays.is at c.align32.ensures))) }
+returns-in-1-clause-does c = then_off _ c.in_ok-n.ensures (rw c.in-1.is record { why = refl })
 
-pub returns-in-To : goal.returns-in-To
+pub returns-in-2-clause-does : goal.returns-in-2-clause-does
+returns-in-2-clause-does c =
+    let d = c.read_info_definition in
+    item_does _ _ _ _ _ d.result c.in_ok-n.ensures (rw c.in-2.is d.ensures.does)
+
+pub returns-in_err-now-in-3-clause-does : goal.returns-in_err-now-in-3-clause-does
+unfolding info_item info_numbered when◌then◌else◌
+returns-in_err-now-in-3-clause-does c =
+    handed (InfoDoes _ _ _ c.args.kinds.now c.args.widths.now c.args.have) _ c.from_residual-in_err-now-in-3.ensures.1
+    (then_off _ c.in_ok-n.ensures (rw c.in-3.is (off _ c.in_err-now-in-3.ensures)))
+
+pub returns-in_ok-now-in-3-clause-does : goal.returns-in_ok-now-in-3-clause-does
+unfolding info_item info_numbered when◌then◌else◌
+returns-in_ok-now-in-3-clause-does c = on _ c.in_ok-n.ensures (rw c.in-3.is (on _ c.in_ok-now-in-3.ensures ends))
+
+pub returns-in_default-clause-does : goal.returns-in_default-clause-does
 unfolding info_item info_numbered when◌then◌else◌ stop
-returns-in-To c = record { kept = (outside_refl _ _ _, outside_refl _ _ _); does = on _ (rw c.in-Value.is at c.read_number.ensures) (rw c.in-0.is (on _ (rw c.in-To.is at c.align32.ensures) ends)) }
-
-pub returns-in-1 : goal.returns-in-1
-unfolding info_item info_numbered when◌then◌else◌ stop
-returns-in-1 c = record { kept = (outside_refl _ _ _, outside_refl _ _ _); does = then_off _ (rw c.in-Value.is at c.read_number.ensures) (rw c.in-1.is record { why = refl }) }
-
-pub shape_of-kinds : goal.shape_of-kinds
-shape_of-kinds c = c.read_info_definition.ensures.kept.0.many
-
-pub shape_of-widths : goal.shape_of-widths
-shape_of-widths c = c.read_info_definition.ensures.kept.1.many
-
-pub returns-in-2 : goal.returns-in-2
-returns-in-2 c =
-    let d = c.read_info_definition in record { kept = d.ensures.kept; does = item_does _ _ _ _ _ d.result (rw c.in-Value.is at c.read_number.ensures) (rw c.in-2.is d.ensures.does) }
-
-pub returns-in-Refused-read_info_record : goal.returns-in-Refused-read_info_record
-unfolding info_item info_numbered when◌then◌else◌ stop
-returns-in-Refused-read_info_record c = record { kept = (outside_refl _ _ _, outside_refl _ _ _); does = then_off _ (rw c.in-Value.is at c.read_number.ensures) (rw c.in-3.is (off _ (rw c.in-Refused-read_info_record.is at c.read_info_record.ensures))) }
-
-pub returns-in-Now : goal.returns-in-Now
-unfolding info_item info_numbered when◌then◌else◌ stop
-returns-in-Now c = record { kept = (outside_refl _ _ _, outside_refl _ _ _); does = on _ (rw c.in-Value.is at c.read_number.ensures) (rw c.in-3.is (on _ (rw c.in-Now.is at c.read_info_record.ensures) ends)) }
-
-pub returns-in_default : goal.returns-in_default
-unfolding info_item info_numbered when◌then◌else◌ stop
-returns-in_default c = record { kept = (outside_refl _ _ _, outside_refl _ _ _); does = then_off _ (rw c.in-Value.is at c.read_number.ensures) (rw (ne_eqb _ 0 c.in_default.in_default-own.rest.0.0.0.1, ne_eqb _ 1 c.in_default.in_default-own.rest.0.0.1, ne_eqb _ 2 c.in_default.in_default-own.rest.0.1, ne_eqb _ 3 c.in_default.in_default-own.rest.1) record { why = refl }) }
+returns-in_default-clause-does c =
+    let n = c.in_ok-n.n in
+    then_off _ c.in_ok-n.ensures
+    (rw (ne_eqb n 0 (λ h. omega arith), ne_eqb n 1 (λ h. omega arith), ne_eqb n 2 (λ h. omega arith), ne_eqb n 3 (λ h. omega arith)) record { why = refl })

@@ -1,8 +1,5 @@
-use Rattle.abbrev.proofs.Infos.{Spelling}
+use Rattle.abbrev.proofs.Records.{Spelling}
 use Rattle.abbrev.proofs.read_letters.Given as goal
 
-abbrev pub invariant-loop-left : goal.invariant-loop-left
-invariant-loop-left l = Spelling l.s l.count l.initial.c l.c l.left
-
-abbrev pub decreases-loop-left : goal.decreases-loop-left
-decreases-loop-left l = l.left
+abbrev pub invariant-loop : goal.invariant-loop
+invariant-loop l = Spelling l.s l.count l.initial.c l.c l.counter

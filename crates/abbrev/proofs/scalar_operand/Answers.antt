@@ -1,4 +1,5 @@
 -- `abbrev::scalar_operand` meets its contract: each arm makes the operand of its kind. Assumes nothing.
+use native.Mathlib.Omega.{arith}
 use borrow.Author.Tests.{ne_eqb}
 use Rattle.bits.specs.Reader.{when◌then◌else◌}
 use Rattle.abbrev.specs.Tables.{scalar_of}
@@ -18,4 +19,6 @@ returns-in-2 c = rw c.in-2.is
 
 pub returns-in_default : goal.returns-in_default
 unfolding scalar_of when◌then◌else◌
-returns-in_default c = rw (ne_eqb _ 0 c.in_default.in_default-own.rest.0.0.1, ne_eqb _ 1 c.in_default.in_default-own.rest.0.1, ne_eqb _ 2 c.in_default.in_default-own.rest.1)
+returns-in_default c =
+    let k = c.args.kind in
+    rw (ne_eqb k 0 (λ h. omega arith), ne_eqb k 1 (λ h. omega arith), ne_eqb k 2 (λ h. omega arith))

@@ -8,8 +8,5 @@ use Rattle.bitcode.proofs.bytes_of.Goals as goal
 pub returns-then-have-length : goal.returns-then-have-length
 returns-then-have-length c = sym (bytes_outside _ _ _ (omega arith))
 
-pub returns-then-have-length-2 : goal.returns-then-have-length-2
-returns-then-have-length-2 c = sym (bytes_outside _ _ _ (omega arith))
-
 pub returns : goal.returns
 returns c = rw add-sub_cancel_left (sym (bytes_inside _ _ _ (omega arith)))

@@ -1,12 +1,13 @@
 -- `bitcode::read_char6` meets its contract: the letter is the one of the six bits read. Assumes nothing.
-use Rattle.bits.proofs.Steps.{on, off, ends}
+use Rattle.bits.specs.Told.{of_read}
+use Rattle.bits.proofs.Steps.{on, off, ends, handed_on}
 use Rattle.bitcode.specs.Scalar.{value}
 use Rattle.bitcode.proofs.read_char6.Goals as goal
 
-pub returns-in-Refused : goal.returns-in-Refused
+pub returns-in_err-v : goal.returns-in_err-v
 unfolding value
-returns-in-Refused c = off _ (rw c.in-Refused.is at c.read.ensures)
+returns-in_err-v c = handed_on of_read _ _ _ _ _ c.from_residual.ensures.1 (off _ c.in_err-v.ensures)
 
-pub returns-in-Value : goal.returns-in-Value
+pub returns : goal.returns
 unfolding value
-returns-in-Value c = on _ (rw c.in-Value.is at c.read.ensures) (rw c.letter.ensures ends)
+returns c = on _ c.in_ok-v.ensures (rw c.letter.ensures ends)

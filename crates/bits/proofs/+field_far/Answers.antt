@@ -9,7 +9,7 @@ use Rattle.bits.proofs.+field_far.Goals as goal
 pub returns-then-k-n-le8 : goal.returns-then-k-n-le8
 returns-then-k-n-le8 t c =
     let a = c.args in
-    from_byte a.s.now a.p a.n (c.wide.ensures.0 ∙ c.byte_at.ensures) c.low.ensures c.if-k-n-le8.true
+    from_byte a.s.now a.p a.n (c.from.ensures ∙ c.byte_at.ensures) c.low.ensures c.if-k-n-le8.true
 
 pub field_far-rest-requires : goal.field_far-rest-requires
 field_far-rest-requires t c = omega arith
@@ -17,8 +17,8 @@ field_far-rest-requires t c = omega arith
 pub returns : goal.returns
 returns t c =
     let s = c.args.s.now in
-    let byte = c.wide.ensures.0 ∙ c.byte_at.ensures in
-    from_two s c.args.p c.args.n (8 - c.args.p % 8) (rest_of_byte s c.args.p byte c.wide.ensures.1) c.field_far-rest.ensures (omega arith) c.requires.1
+    let byte = c.from.ensures ∙ c.byte_at.ensures in
+    from_two s c.args.p c.args.n (8 - c.args.p % 8) (rest_of_byte s c.args.p byte (omega (arith, c.from.ensures, c.byte_at.type_inv))) c.field_far-rest.ensures (omega arith) c.requires.1
 
 pub overflow_add-result : goal.overflow_add-result
 overflow_add-result t c =

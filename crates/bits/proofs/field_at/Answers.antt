@@ -9,7 +9,7 @@ use Rattle.bits.proofs.field_at.Goals as goal
 pub returns-then-k-n-le64 : goal.returns-then-k-n-le64
 returns-then-k-n-le64 c =
     let a = c.args in
-    from_word a.s.now a.p a.n (λ (i : ℕ). omega (arith, c.shared_slice_known-1.given i)) c.eight_there.ensures c.low.ensures c.if-k-n-le64.true
+    from_word a.s.now a.p a.n (λ (i : ℕ). (c.type_inv.s i).fits) c.eight_there.ensures c.low.ensures c.if-k-n-le64.true
 
 pub returns-else-k-n-le64 : goal.returns-else-k-n-le64
 returns-else-k-n-le64 c =

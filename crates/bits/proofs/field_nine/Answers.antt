@@ -7,8 +7,8 @@ use Rattle.bits.proofs.field_nine.Goals as goal
 pub returns : goal.returns
 returns c =
     let a = c.args in
-    let bytes : Bytes a.s.now = λ (i : ℕ). omega (arith, c.shared_slice_known-1.given i) in
-    from_nine a.s.now a.p a.n bytes c.eight_there.ensures c.wide.ensures.0 c.low-y.ensures (omega arith) (omega arith)
+    let bytes : Bytes a.s.now = λ (i : ℕ). (c.type_inv.s i).fits in
+    from_nine a.s.now a.p a.n bytes c.eight_there.ensures c.from.ensures c.low-y.ensures (omega arith) (omega arith)
 
 pub overflow_add-result : goal.overflow_add-result
 overflow_add-result c =

@@ -1,21 +1,9 @@
--- `tally::numbers` meets its contract: the sum in hand and the sum of what is left are the whole, and each number leaves fewer bits. Assumes nothing.
+-- `tally::numbers` meets its contract: its reader goes forward, and answers what the definition's reads. Assumes nothing.
 use Rattle.bits.proofs.Answers.{vbr_ahead}
-use Rattle.bits.proofs.Vbr.{ahead_less}
-use Rattle.tally.proofs.Sums.{summing_start, summing_more, summing_over}
 use Rattle.tally.proofs.numbers.Goals as goal
 
-pub loop-v-init : goal.loop-v-init
-loop-v-init c = summing_start _ _ _ c.new-c.ensures
-
-pub loop-v-smaller : goal.loop-v-smaller
-loop-v-smaller c =
-    let g = rw c.in-Value.is at c.read_vbr.ensures in
-    ahead_less _ _ _ (vbr_ahead _ _ _ _ _ _ g.gives) g.ends
-
-pub loop-v-preserved : goal.loop-v-preserved
-loop-v-preserved c =
-    let g = rw c.in-Value.is at c.read_vbr.ensures in
-    summing_more c.loop-v.invariant g (vbr_ahead _ _ _ _ _ _ g.gives) c.wrapping_add_u64-sum.ensures.value
+pub sum_of-requires-clause-forward : goal.sum_of-requires-clause-forward
+sum_of-requires-clause-forward c = λ c' v d p. let a = vbr_ahead _ _ _ _ _ _ p.1.gives in (a.past, a.inside, p.1.ends)
 
 pub returns : goal.returns
-returns c = summing_over c.loop-v.invariant (rw c.in-Refused.is at c.read_vbr.ensures)
+returns c = c.sum_of.ensures _ (λ c' r p. p.1)

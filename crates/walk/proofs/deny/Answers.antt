@@ -5,5 +5,4 @@ use Rattle.walk.proofs.deny.Goals as goal
 
 pub returns : goal.returns
 unfolding filled
-returns c =
-    (refl, c.clear.ensures, c.clear-2.ensures)
+returns c = (refl, c.clear.ensures, c.clear-2.ensures)

@@ -3,41 +3,40 @@ use Prim.Native.Nat.{◌-◌}
 use native.Mathlib.Omega.{arith}
 use lib.ListN.{length}
 use borrow.Rule.Slice.PartMut.{mid_len}
-use Rattle.bits.proofs.Steps.{off, then_off}
-use Rattle.walk.specs.Promises.{load}
+use Rattle.bits.proofs.Steps.{off, then_off, handed}
+use Rattle.walk.specs.Promises.{load, Loaded}
 use Rattle.walk.proofs.Stores.{take_put_front}
 use Rattle.walk.proofs.Records.{array_loads}
 use Rattle.walk.proofs.read_array.Goals as goal
 
-pub overflow_add-result : goal.overflow_add-result
-overflow_add-result c =
+pub overflow_add-read : goal.overflow_add-read
+overflow_add-read c =
     let a = c.args in
     let ops = a.operands.now in
-    let fill = a.r.fill in
-    let e = mid_len fill (length ops) ops (omega arith) in
-    let z = rw e at (rw c.in-To.is at c.fill_run.ensures) in
-    record { fits = omega (arith, c.operands-1.given.0, e, z.1) }
+    let e = mid_len a.r.fill (length ops) ops (omega arith) in
+    let z = rw e at c.in_ok-end.ensures in
+    record { fits = omega (arith, e, z.1) }
 
-pub returns-in-Refused : goal.returns-in-Refused
+pub returns-in_err-length : goal.returns-in_err-length
 unfolding load
-returns-in-Refused c = off _ (rw c.in-Refused.is at c.read_vbr.ensures)
+returns-in_err-length c = handed (Loaded _ _ _ _ _ _) _ c.from_residual.ensures.1 (off _ c.in_err-length.ensures)
 
-pub returns-in-Refused-fill_run : goal.returns-in-Refused-fill_run
+pub returns-in_err-end : goal.returns-in_err-end
 unfolding load
-returns-in-Refused-fill_run c =
+returns-in_err-end c =
     let a = c.args in
     let ops = a.operands.now in
-    let fill = a.r.fill in
-    let e = mid_len fill (length ops) ops (omega arith) in
-    let z = rw e at (rw c.in-Refused-fill_run.is at c.fill_run.ensures) in
-    then_off _ (rw c.in-Value.is at c.read_vbr.ensures) (off _ z)
+    let e = mid_len a.r.fill (length ops) ops (omega arith) in
+    let z = rw e at c.in_err-end.ensures in
+    handed (Loaded _ _ _ _ _ _) _ c.from_residual-in_err-end.ensures.1 (then_off _ c.in_ok-length.ensures (off _ z))
 
-pub returns-in-To : goal.returns-in-To
-returns-in-To c =
+pub returns : goal.returns
+returns c =
     let a = c.args in
     let ops = a.operands.now in
     let fill = a.r.fill in
     let e = mid_len fill (length ops) ops (omega arith) in
-    let z = rw e at (rw c.in-To.is at c.fill_run.ensures) in
+    let z = rw e at c.in_ok-end.ensures in
     let ys = c.fill_run.new.rest in
-    rw c.array_kind.ensures (array_loads a.k ops _ ys a.r (rw c.in-Value.is at c.read_vbr.ensures) z.0 z.1 (take_put_front fill (length ops - fill) _ ops ys (omega arith) z.1) (omega (arith, c.operands-1.given.0, c.operands-1.given.1, e, z.1)))
+    rw c.array_kind.ensures (array_loads a.k ops _ ys a.r c.in_ok-length.ensures z.0 z.1 (take_put_front fill (length ops - fill) _ ops ys (omega arith) z.1)
+    (omega (arith, e, z.1)))

@@ -1,26 +1,24 @@
 -- `walk::read_blob` meets its contract: a blob's length, the alignment behind it, and its bytes. Assumes nothing.
-use Rattle.bits.proofs.Steps.{off, then_off}
-use Rattle.walk.specs.Promises.{load}
+use Rattle.bits.proofs.Steps.{off, then_off, handed}
+use Rattle.walk.specs.Promises.{load, Loaded}
 use Rattle.walk.proofs.Records.{aligned, loads_behind}
 use Rattle.walk.proofs.read_blob.Goals as goal
 
 pub read_blob_bytes-requires : goal.read_blob_bytes-requires
-read_blob_bytes-requires c =
-    aligned (rw c.in-To.is at c.align32.ensures)
+read_blob_bytes-requires c = aligned c.in_ok-g.ensures
 
-pub returns-in-Refused : goal.returns-in-Refused
+pub returns-in_err-n : goal.returns-in_err-n
 unfolding load
-returns-in-Refused c =
-    λ left ops h. off _ (rw c.in-Refused.is at c.read_vbr.ensures)
+returns-in_err-n c = λ left ops h. handed (Loaded _ _ _ _ _ _) _ c.from_residual.ensures.1 (off _ c.in_err-n.ensures)
 
-pub returns-in-Stays : goal.returns-in-Stays
+pub returns-in_err-g : goal.returns-in_err-g
 unfolding load
-returns-in-Stays c =
-    λ left ops h. then_off _ (rw c.in-Value.is at c.read_vbr.ensures) (off _ (rw c.in-Stays.is at c.align32.ensures))
+returns-in_err-g c =
+    λ left ops h. handed (Loaded _ _ _ _ _ _) _ c.from_residual-in_err-g.ensures.1 (then_off _ c.in_ok-n.ensures (off _ c.in_err-g.ensures))
 
-pub returns-in-To : goal.returns-in-To
+pub returns : goal.returns
 unfolding load
-returns-in-To c =
+returns c =
     λ left ops h.
-    loads_behind _ ops ops _ c.read_blob_bytes.result (rw c.in-Value.is at c.read_vbr.ensures)
-    (loads_behind _ ops ops _ c.read_blob_bytes.result (rw c.in-To.is at c.align32.ensures) (c.read_blob_bytes.ensures ops h))
+    loads_behind _ ops ops _ c.read_blob_bytes.result c.in_ok-n.ensures
+    (loads_behind _ ops ops _ c.read_blob_bytes.result c.in_ok-g.ensures (c.read_blob_bytes.ensures ops h))

@@ -7,7 +7,7 @@ use Rattle.walk.proofs.walk.Goals as goal
 pub returns-then-input-gt-MAX_INPUT : goal.returns-then-input-gt-MAX_INPUT
 returns-then-input-gt-MAX_INPUT c =
     let a = c.args in
-    let r = c.refuse in
+    let r = c.at in
     let o = too_long a.input.now a.skip.now _ _ c.if-input-gt-MAX_INPUT.true in
     let z = meets_denied a.input.now a.skip.now _ _ r.result refl refl r.ensures o c.deny.ensures in
     record { answer = z.0; events = z.1.0; operands = z.1.1 }
@@ -15,39 +15,35 @@ returns-then-input-gt-MAX_INPUT c =
 pub accept-requires : goal.accept-requires
 accept-requires c =
     let w = c.walk_stream in
-    let z = rw c.in-Go.is at w.ensures in
+    let z = rw c.in-Ok-walk_stream.is at w.ensures in
     (z.most_events, z.most_operands)
 
-pub returns-in-Refused : goal.returns-in-Refused
-returns-in-Refused c =
+pub returns-in-Err : goal.returns-in-Err
+returns-in-Err c =
     let a = c.args in
-    let r = c.refuse-in-Refused in
-    let p = sym c.in-Refused.is ∙ c.parse.ensures in
+    let r = c.at-in-Err in
+    let p = sym c.in-Err.is ∙ c.parse.ensures in
     let i = c.if-input-gt-MAX_INPUT.false in
     let o = unheaded a.input.now a.skip.now _ _ (omega (arith, i)) p in
-    let z = meets_denied a.input.now a.skip.now _ _ r.result refl refl r.ensures o c.deny-in-Refused.ensures in
+    let z = meets_denied a.input.now a.skip.now _ _ r.result refl refl r.ensures o c.deny-in-Err.ensures in
     record { answer = z.0; events = z.1.0; operands = z.1.1 }
 
-pub returns-in-No : goal.returns-in-No
-returns-in-No c =
+pub returns-in-Err-walk_stream : goal.returns-in-Err-walk_stream
+returns-in-Err-walk_stream c =
     let w = c.walk_stream in
-    let s = c.stream in
-    let p = c.parse in
     let i = c.if-input-gt-MAX_INPUT.false in
     let a = c.args in
-    let o = headed_on a.input.now a.skip.now _ _ (omega (arith, i)) (sym c.in-Signed.is ∙ p.ensures) s.ensures in
-    let z = meets_denied a.input.now a.skip.now _ _ c.in-No.x w.auto.events w.auto.operands refl
-    (refused_so _ o (rw c.in-No.is at w.ensures)) c.deny-in-No.ensures in
+    let o = headed_on a.input.now a.skip.now _ _ (omega (arith, i)) (sym c.in-Ok.is ∙ c.parse.ensures) c.stream.ensures in
+    let z = meets_denied a.input.now a.skip.now _ _ c.in-Err-walk_stream.refused w.auto.events w.auto.operands refl
+    (refused_so _ o (rw c.in-Err-walk_stream.is at w.ensures)) c.deny-in-Err-walk_stream.ensures in
     record { answer = z.0; events = z.1.0; operands = z.1.1 }
 
-pub returns-in-Go : goal.returns-in-Go
-returns-in-Go c =
+pub returns-in-Ok-walk_stream : goal.returns-in-Ok-walk_stream
+returns-in-Ok-walk_stream c =
     let w = c.walk_stream in
-    let s = c.stream in
-    let p = c.parse in
     let i = c.if-input-gt-MAX_INPUT.false in
     let a = c.args in
-    let o = headed_on a.input.now a.skip.now _ _ (omega (arith, i)) (sym c.in-Signed.is ∙ p.ensures) s.ensures in
-    let z = meets_accepted a.input.now a.skip.now a.events.now a.operands.now c.in-Go.m o
-    (rw c.in-Go.is at w.ensures) w.auto.events w.auto.operands c.accept.ensures in
+    let o = headed_on a.input.now a.skip.now _ _ (omega (arith, i)) (sym c.in-Ok.is ∙ c.parse.ensures) c.stream.ensures in
+    let z = meets_accepted a.input.now a.skip.now a.events.now a.operands.now c.in-Ok-walk_stream.m o
+    (rw c.in-Ok-walk_stream.is at w.ensures) w.auto.events w.auto.operands c.accept.ensures in
     record { answer = z.0; events = z.1.0; operands = z.1.1 }

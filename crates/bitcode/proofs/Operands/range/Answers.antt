@@ -1,29 +1,26 @@
--- `bitcode::Operands::range` meets its contract: both operands are taken, and the test says, with no sum, whether the end fits 64 bits. Assumes nothing.
-use Prim.Native.Nat.{◌+◌, ◌^◌}
+-- `bitcode::Operands::range` meets its contract: both operands are taken, and the test says whether the end fits 64 bits. Assumes nothing.
+use Prim.Native.Nat.{◌^◌}
 use native.Mathlib.Omega.{arith}
 use borrow.Author.Tests.{lt-ltb, le-ltb}
-use Rattle.bits.proofs.Steps.{on, then_off, off, ends, pass, fail}
-use Rattle.bitcode.specs.Operands.{next_range}
+use Rattle.bits.proofs.Steps.{on, then_off, off, ends, pass, fail, handed_on}
+use Rattle.bitcode.specs.Operands.{next_range, of_next}
 use Rattle.bitcode.proofs.Operands.range.Goals as goal
 
-pub returns-then-start-n : goal.returns-then-start-n
+pub returns-in_err-start : goal.returns-in_err-start
 unfolding next_range
-returns-then-start-n c =
-    let end = c.in-Value.start + c.in-Value-u64.n in
-    then_off _ (rw c.in-Value.is at c.u64.ensures)
-    (then_off _ (rw c.in-Value-u64.is at c.u64-in-Value.ensures) (fail _ (le-ltb end (2 ^ 64) (omega arith))))
+returns-in_err-start c = handed_on of_next _ _ _ _ _ c.from_residual.ensures.1 (off _ c.in_err-start.ensures)
 
-pub returns-in-Refused : goal.returns-in-Refused
+pub returns-in_err-n : goal.returns-in_err-n
 unfolding next_range
-returns-in-Refused c = off _ (rw c.in-Refused.is at c.u64.ensures)
+returns-in_err-n c =
+    handed_on of_next _ _ _ _ _ c.from_residual-in_err-n.ensures.1 (then_off _ c.in_ok-start.ensures (off _ c.in_err-n.ensures))
 
-pub returns-in-Refused-u64 : goal.returns-in-Refused-u64
+pub returns-in-Some : goal.returns-in-Some
 unfolding next_range
-returns-in-Refused-u64 c = then_off _ (rw c.in-Value.is at c.u64.ensures) (off _ (rw c.in-Refused-u64.is at c.u64-in-Value.ensures))
+returns-in-Some c =
+    on _ c.in_ok-start.ensures (on _ c.in_ok-n.ensures (rw c.in-Some.ensures.1 (pass _ _ (lt-ltb _ (2 ^ 64) c.in-Some.ensures.0) ends)))
 
-pub returns-else-start-n : goal.returns-else-start-n
+pub returns-in-None : goal.returns-in-None
 unfolding next_range
-returns-else-start-n c =
-    let end = c.in-Value.start + c.in-Value-u64.n in
-    on _ (rw c.in-Value.is at c.u64.ensures)
-    (on _ (rw c.in-Value-u64.is at c.u64-in-Value.ensures) (pass _ _ (lt-ltb end (2 ^ 64) (omega arith)) ends))
+returns-in-None c =
+    then_off _ c.in_ok-start.ensures (then_off _ c.in_ok-n.ensures (fail _ (le-ltb _ (2 ^ 64) (omega (arith, c.in-None.ensures)))))

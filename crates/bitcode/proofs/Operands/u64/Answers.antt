@@ -4,8 +4,8 @@ use native.Mathlib.Omega.{arith}
 use Rattle.bitcode.proofs.Typed.{next_off, next_there}
 use Rattle.bitcode.proofs.Operands.u64.Goals as goal
 
-pub returns-then-end-at : goal.returns-then-end-at
-returns-then-end-at c = next_off _ _ _ (omega arith)
+pub returns-then-self-at : goal.returns-then-self-at
+returns-then-self-at c = next_off _ _ _ (omega arith)
 
 pub returns-then-store-at : goal.returns-then-store-at
 returns-then-store-at c = next_off _ _ _ (omega arith)

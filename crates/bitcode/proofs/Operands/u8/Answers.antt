@@ -1,13 +1,15 @@
 -- `bitcode::Operands::u8` meets its contract: it is `below` at the width 8, and what is below 2 ^ 8 fits. Assumes nothing.
 use mathlib.Core.Path.{refl}
+use Rattle.bits.proofs.Steps.{handed_on}
+use Rattle.bitcode.specs.Operands.{of_next}
 use Rattle.bitcode.proofs.Typed.{below_lt}
 use Rattle.bitcode.proofs.Operands.u8.Goals as goal
 
 pub overflow_cast-result : goal.overflow_cast-result
-overflow_cast-result c = record { fits = below_lt 8 (rw c.in-Value.is at (c.below.ensures 8 refl)) }
+overflow_cast-result c = record { fits = below_lt 8 (c.in_ok-v.ensures 8 refl) }
 
-pub returns-in-Refused : goal.returns-in-Refused
-returns-in-Refused c = rw c.in-Refused.is at (c.below.ensures 8 refl)
+pub returns-in_err-v : goal.returns-in_err-v
+returns-in_err-v c = handed_on of_next _ _ _ _ _ c.from_residual.ensures.1 (c.in_err-v.ensures 8 refl)
 
-pub returns-in-Value : goal.returns-in-Value
-returns-in-Value c = rw c.in-Value.is at (c.below.ensures 8 refl)
+pub returns : goal.returns
+returns c = c.in_ok-v.ensures 8 refl

@@ -6,26 +6,26 @@ use Rattle.bitcode.proofs.Signature.stream.Goals as goal
 
 pub inner-requires : goal.inner-requires
 inner-requires c =
-    let w = (parsed_opens _ _ (sym c.parse.ensures ∙ c.in-Signed.is)).wraps c.if-h-eq-LLVM_BITCODE_WRAPPER_MAGIC.true in
+    let w = (parsed_opens _ _ (sym c.parse.ensures ∙ c.in-Ok.is)).wraps c.if-h-eq-LLVM_BITCODE_WRAPPER_MAGIC.true in
     (w.inside, w.holds)
 
 pub returns-then-h-eq-LLVM_BITCODE_WRAPPER_MAGIC : goal.returns-then-h-eq-LLVM_BITCODE_WRAPPER_MAGIC
 returns-then-h-eq-LLVM_BITCODE_WRAPPER_MAGIC c =
-    let w = (parsed_opens _ _ (sym c.parse.ensures ∙ c.in-Signed.is)).wraps c.if-h-eq-LLVM_BITCODE_WRAPPER_MAGIC.true in
+    let w = (parsed_opens _ _ (sym c.parse.ensures ∙ c.in-Ok.is)).wraps c.if-h-eq-LLVM_BITCODE_WRAPPER_MAGIC.true in
     c.inner.ensures ∙ sym w.behind
 
-pub slice_bounds-result-count-in-Signed : goal.slice_bounds-result-count-in-Signed
-slice_bounds-result-count-in-Signed c = (parsed_opens _ _ (sym c.parse.ensures ∙ c.in-Signed.is)).some
+pub slice_bounds-result-count-in-Ok : goal.slice_bounds-result-count-in-Ok
+slice_bounds-result-count-in-Ok c = (parsed_opens _ _ (sym c.parse.ensures ∙ c.in-Ok.is)).some
 
-pub slice_bounds-result-start-in-Signed : goal.slice_bounds-result-start-in-Signed
-slice_bounds-result-start-in-Signed c =
-    let o = parsed_opens _ _ (sym c.parse.ensures ∙ c.in-Signed.is) in
+pub slice_bounds-result-start-in-Ok : goal.slice_bounds-result-start-in-Ok
+slice_bounds-result-start-in-Ok c =
+    let o = parsed_opens _ _ (sym c.parse.ensures ∙ c.in-Ok.is) in
     omega (arith, o.some)
 
-pub returns-in-Refused : goal.returns-in-Refused
-returns-in-Refused c = sym (parsed_none _ _ (sym c.parse.ensures ∙ c.in-Refused.is))
+pub returns-in-Err : goal.returns-in-Err
+returns-in-Err c = sym (parsed_none _ _ (sym c.parse.ensures ∙ c.in-Err.is))
 
 pub returns-else-h-eq-LLVM_BITCODE_WRAPPER_MAGIC : goal.returns-else-h-eq-LLVM_BITCODE_WRAPPER_MAGIC
 returns-else-h-eq-LLVM_BITCODE_WRAPPER_MAGIC c =
-    let o = parsed_opens _ _ (sym c.parse.ensures ∙ c.in-Signed.is) in
+    let o = parsed_opens _ _ (sym c.parse.ensures ∙ c.in-Ok.is) in
     rest_of 4 c.args.input.now ∙ sym (o.plain c.if-h-eq-LLVM_BITCODE_WRAPPER_MAGIC.false)

@@ -4,4 +4,4 @@ use Rattle.bits.proofs.Cursor.is_at_end.Goals as goal
 
 pub returns : goal.returns
 unfolding ends_at
-returns c = rw c.bits-bits.ensures.0
+returns c = rw c.bits.ensures.0

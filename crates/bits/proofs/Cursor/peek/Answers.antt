@@ -2,9 +2,9 @@
 use Rattle.bits.proofs.Laws.{peek_seen, peek_off}
 use Rattle.bits.proofs.Cursor.peek.Goals as goal
 
-pub returns-in-Value : goal.returns-in-Value
-returns-in-Value c =
-    peek_seen _ (rw c.in-Value.is at c.read.ensures)
+pub returns-in-Ok : goal.returns-in-Ok
+returns-in-Ok c =
+    peek_seen _ (rw c.in-Ok.is at c.read.ensures)
 
-pub returns-in-Refused : goal.returns-in-Refused
-returns-in-Refused c = peek_off _ (rw c.in-Refused.is at c.read.ensures)
+pub returns-in-Err : goal.returns-in-Err
+returns-in-Err c = peek_off _ (rw c.in-Err.is at c.read.ensures)

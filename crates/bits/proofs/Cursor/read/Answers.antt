@@ -1,13 +1,10 @@
 -- `bits::Cursor::read` meets its contract: each return is one of the definition's tests, and the value is `field_at`'s. Assumes nothing.
-use Rattle.bits.proofs.Laws.{read_none, read_wide, read_short, read_value}
+use Rattle.bits.proofs.Laws.{read_outside, read_short, read_value}
 use native.Mathlib.Omega.{arith}
 use Rattle.bits.proofs.Cursor.read.Goals as goal
 
 pub returns-then-n-lt1 : goal.returns-then-n-lt1
-returns-then-n-lt1 c = read_none _ _ _ _ (omega arith)
-
-pub returns-then-n-gt64 : goal.returns-then-n-gt64
-returns-then-n-gt64 c = read_wide _ _ _ _ (omega arith)
+returns-then-n-lt1 c = read_outside _ _ _ _ (λ h k. omega arith)
 
 pub returns-then-bits-n : goal.returns-then-bits-n
 returns-then-bits-n c = read_short _ _ _ _ (omega arith) (omega arith) (omega arith)
@@ -15,11 +12,11 @@ returns-then-bits-n c = read_short _ _ _ _ (omega arith) (omega arith) (omega ar
 pub returns-then-bits-n-2 : goal.returns-then-bits-n-2
 returns-then-bits-n-2 c = read_short _ _ _ _ (omega arith) (omega arith) (omega arith)
 
-pub field_at-v-requires : goal.field_at-v-requires
-field_at-v-requires c = omega arith
+pub field_at-requires : goal.field_at-requires
+field_at-requires c = omega arith
 
 pub overflow_add-result : goal.overflow_add-result
 overflow_add-result c = omega arith
 
 pub returns : goal.returns
-returns c = read_value _ _ _ _ c.field_at-v.ensures (omega arith) (omega arith) (omega arith)
+returns c = read_value _ _ _ _ c.field_at.ensures (omega arith) (omega arith) (omega arith)

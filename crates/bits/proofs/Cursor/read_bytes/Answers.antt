@@ -7,17 +7,17 @@ use Rattle.bits.proofs.Cursor.read_bytes.Goals as goal
 
 pub overflow_add-e : goal.overflow_add-e
 overflow_add-e c =
-    let m = skip_inside _ (rw c.in-To.is at c.skip_bytes.ensures) in
+    let m = skip_inside _ (rw c.in-Ok.is at c.skip_bytes.ensures) in
     omega arith
 
-pub slice_bounds-result-end-in-To : goal.slice_bounds-result-end-in-To
-slice_bounds-result-end-in-To c =
-    let m = skip_inside _ (rw c.in-To.is at c.skip_bytes.ensures) in
+pub slice_bounds-result-end-in-Ok : goal.slice_bounds-result-end-in-Ok
+slice_bounds-result-end-in-Ok c =
+    let m = skip_inside _ (rw c.in-Ok.is at c.skip_bytes.ensures) in
     omega arith
 
-pub returns-in-Stays : goal.returns-in-Stays
-returns-in-Stays c = sym (bytes_none _ (rw c.in-Stays.is at c.skip_bytes.ensures))
+pub returns-in-Err : goal.returns-in-Err
+returns-in-Err c = sym (bytes_none _ (rw c.in-Err.is at c.skip_bytes.ensures))
 
-pub returns-in-To : goal.returns-in-To
-returns-in-To c =
-    rw add-sub_cancel_left (sym (bytes_some _ (rw c.in-To.is at c.skip_bytes.ensures)))
+pub returns-in-Ok : goal.returns-in-Ok
+returns-in-Ok c =
+    rw add-sub_cancel_left (sym (bytes_some _ (rw c.in-Ok.is at c.skip_bytes.ensures)))

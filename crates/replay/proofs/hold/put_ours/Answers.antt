@@ -7,4 +7,4 @@ use Rattle.replay.proofs.hold.put_ours.Goals as goal
 pub returns : goal.returns
 unfolding text_of answered
 returns c =
-    page_puts c.new-page.ensures (rw (c.walk-w.ensures.answer, c.walk-w.ensures.events, c.walk-w.ensures.operands) at c.put_answer.ensures) (search rules)
+    page_puts c.new-page.ensures (rw (c.from-w.ensures, c.walk.ensures.answer, c.walk.ensures.events, c.walk.ensures.operands) at c.put_answer.ensures) (search rules)
