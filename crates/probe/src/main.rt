@@ -91,13 +91,13 @@ fn put_line(out: &mut [u8], fill: usize, line: &[u8]) -> usize {
 // Answers every line of the input.
 fn answer_all(text: &mut [u8], out: &mut [u8]) {
     let mut fill = 0;
-    let mut line = Line::first(text);
-    while 0 < line.left {
+    let mut next = Line::first(text);
+    while let Some(line) = next {
         let a = line.start;
         let e = line.end;
         fill = made_room(out, fill, MOST);
         fill = put_line(out, fill, &text[a..e]);
-        line = line.behind(text);
+        next = line.behind(text);
     }
     flush(out, fill);
 }

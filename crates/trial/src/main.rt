@@ -178,13 +178,13 @@ fn put_line(
 // Answers every line of the input.
 fn answer_all(text: &mut [u8], out: &mut [u8], events: &mut [u64], operands: &mut [u64]) {
     let mut fill = 0;
-    let mut line = Line::first(text);
-    while 0 < line.left {
+    let mut next = Line::first(text);
+    while let Some(line) = next {
         let a = line.start;
         let e = line.end;
         fill = made_room(out, fill, MOST);
         fill = put_line(out, fill, &text[a..e], events, operands);
-        line = line.behind(text);
+        next = line.behind(text);
     }
     flush(out, fill);
 }
