@@ -1,82 +1,73 @@
-// What a call answered, in numbers, and that as text.
-use bitcode::Parsed;
-use text::old::{put_byte, put_bytes, put_decimal, put_named, put_signature, put_signed};
+// What a call answered, and that as text.
+use bitcode::{Range, Signature};
+use bits::Cursor;
+use text::page::Page;
 
 #[derive(Clone, Copy)]
-pub enum Answer {
-    // A number alone.
+pub enum Value {
     Number(u64),
     Signed(i64),
+    Range(Range),
+}
+
+#[derive(Clone, Copy)]
+pub enum Answer<'a> {
+    // A value alone.
+    Is(Value),
     Truth(bool),
     // The place that a cursor moved to.
     To(u64),
-    // A number, and the place behind it.
-    Read(u64, u64),
-    ReadSigned(i64, u64),
-    // Start, end, and the place behind them.
-    Range(u64, u64, u64),
-    // The part's place and end, and the place behind it.
-    Parts(u64, u64, u64),
-    Refused(u64),
-    // No such question.
-    Unknown,
+    // A value, and the place behind it.
+    Read(Value, u64),
+    // A part, and what is behind it.
+    Parts(Cursor, Cursor),
+    Header(Signature),
+    Bytes(&'a [u8]),
 }
 
-fn put_at(out: &mut [u8], fill: usize, place: u64) -> usize {
-    put_named(out, fill, b" at ", place)
+// A truth in words.
+fn truth(is_so: bool) -> &'static [u8] {
+    if is_so { b"yes" } else { b"no" }
 }
 
-fn put_read(out: &mut [u8], fill: usize, v: u64, place: u64) -> usize {
-    let at = put_decimal(out, fill, v);
-    put_at(out, at, place)
-}
-
-fn put_signed_read(out: &mut [u8], fill: usize, v: i64, place: u64) -> usize {
-    let at = put_signed(out, fill, v);
-    put_at(out, at, place)
-}
-
-fn put_range(out: &mut [u8], fill: usize, start: u64, end: u64, place: u64) -> usize {
-    let a = put_decimal(out, fill, start);
-    let b = put_named(out, a, b"..", end);
-    put_at(out, b, place)
-}
-
-fn put_parts(out: &mut [u8], fill: usize, at: u64, end: u64, behind: u64) -> usize {
-    let a = put_named(out, fill, b"part ", at);
-    let b = put_named(out, a, b" ", end);
-    put_named(out, b, b" then ", behind)
-}
-
-fn put_truth(out: &mut [u8], fill: usize, is_so: bool) -> usize {
-    if is_so {
-        return put_bytes(out, fill, b"yes");
-    }
-    put_bytes(out, fill, b"no")
-}
-
-fn put_refused(out: &mut [u8], fill: usize, number: u64) -> usize {
-    put_named(out, fill, b"refused ", number)
-}
-
-pub fn put_answer(out: &mut [u8], fill: usize, answer: Answer) -> usize {
-    match answer {
-        Answer::Number(v) => put_decimal(out, fill, v),
-        Answer::Signed(v) => put_signed(out, fill, v),
-        Answer::Truth(is_so) => put_truth(out, fill, is_so),
-        Answer::To(at) => put_named(out, fill, b"at ", at),
-        Answer::Read(v, at) => put_read(out, fill, v, at),
-        Answer::ReadSigned(v, at) => put_signed_read(out, fill, v, at),
-        Answer::Range(start, end, at) => put_range(out, fill, start, end, at),
-        Answer::Parts(at, end, behind) => put_parts(out, fill, at, end, behind),
-        Answer::Refused(e) => put_refused(out, fill, e),
-        Answer::Unknown => put_byte(out, fill, b'?'),
+impl Value {
+    fn put(self, page: &mut Page<'_>) {
+        match self {
+            Value::Number(v) => page.decimal(v),
+            Value::Signed(v) => page.signed(v),
+            Value::Range(r) => {
+                page.decimal(r.start);
+                page.named(b"..", r.end);
+            }
+        }
     }
 }
 
-pub fn put_header(out: &mut [u8], fill: usize, answer: Parsed) -> usize {
+impl Answer<'_> {
+    fn put(self, page: &mut Page<'_>) {
+        match self {
+            Answer::Is(value) => value.put(page),
+            Answer::Truth(is_so) => page.bytes(truth(is_so)),
+            Answer::To(at) => page.named(b"at ", at),
+            Answer::Read(value, at) => {
+                value.put(page);
+                page.named(b" at ", at);
+            }
+            Answer::Parts(part, behind) => {
+                page.named(b"part ", part.at);
+                page.named(b" ", part.end);
+                page.named(b" then ", behind.at);
+            }
+            Answer::Header(header) => page.signature(header),
+            Answer::Bytes(bytes) => page.hex(bytes),
+        }
+    }
+}
+
+// What a call answered, or the number of its refusal.
+pub fn put_answer(page: &mut Page<'_>, answer: Result<Answer<'_>, u64>) {
     match answer {
-        Parsed::Signed(h) => put_signature(out, fill, h),
-        Parsed::Refused(e) => put_refused(out, fill, e),
+        Ok(answer) => answer.put(page),
+        Err(number) => page.named(b"refused ", number),
     }
 }

@@ -14,19 +14,17 @@
 #![tactic(auto)]
 
 mod answer;
-mod cursor;
+mod ask;
+mod call;
 mod scan;
-mod typed;
+mod told;
 
-use answer::{Answer, put_answer, put_header};
-use bitcode::Signature;
-use cursor::{ask_cursor, ask_scalar, cursor_of};
-use scan::{Question, Scan, question_on};
-use text::feed::{Line, flush, made_room, zeros};
-use text::front;
-use text::old::{put_byte, put_bytes, put_hex};
+use answer::put_answer;
+use ask::answer_to;
+use scan::question_on;
+use text::feed::{Line, zeros};
+use text::page::Page;
 use text::scan::is_asking;
-use typed::ask_typed;
 
 // The most bytes of a question.
 const MOST_BYTES: usize = 256;
@@ -36,74 +34,41 @@ const MOST: usize = 66_560;
 
 const ROOM: usize = 133_120;
 
-// The answer to a question that has numbers for an answer.
-fn ask(q: Question, s: &[u8]) -> Answer {
-    let op = q.op;
-    match op {
-        b'r' | b'p' | b'v' | b'a' | b's' | b't' | b'l' | b'e' => ask_cursor(q, s),
-        b'f' | b'w' | b'c' | b'k' => ask_scalar(q, s),
-        b'1' | b'2' | b'4' | b'8' | b'z' | b'g' | b'n' => ask_typed(q, s),
-        b'i' => Answer::Signed(bits::signed(q.n)),
-        _ => Answer::Unknown,
-    }
-}
-
-// The answer to a question that has bytes for an answer.
-fn ask_bytes(q: Question, s: &[u8]) -> &[u8] {
-    let op = q.op;
-    match op {
-        b'b' => cursor_of(q).read_bytes(s, q.n),
-        b'm' => Signature::stream(s),
-        _ => bitcode::blob(s, q.at, q.n),
-    }
-}
-
-// The answer to a question.
-fn put_asked(out: &mut [u8], fill: usize, q: Question, s: &[u8]) -> usize {
-    let op = q.op;
-    match op {
-        b'h' => put_header(out, fill, Signature::parse(s)),
-        b'b' | b'm' | b'o' => put_hex(out, fill, ask_bytes(q, s)),
-        _ => put_answer(out, fill, ask(q, s)),
-    }
-}
-
 // The answer to a line that is neither empty nor a comment.
-fn put_reply(out: &mut [u8], fill: usize, line: &[u8]) -> usize {
+fn put_reply(page: &mut Page<'_>, line: &[u8]) {
     let mut bytes = [0u8; MOST_BYTES];
-    let at = put_bytes(out, fill, b" -> ");
+    page.bytes(b" -> ");
     match question_on(line, &mut bytes) {
-        Scan::Asked(q) => put_asked(out, at, q, front(&bytes, q.count)),
-        Scan::Other => put_byte(out, at, b'?'),
+        Some(q) => put_answer(page, answer_to(q)),
+        None => page.byte(b'?'),
     }
 }
 
 // The line, its answer, and a line end.
-fn put_line(out: &mut [u8], fill: usize, line: &[u8]) -> usize {
-    let at = put_bytes(out, fill, line);
+fn put_line(page: &mut Page<'_>, line: &[u8]) {
+    page.bytes(line);
     if is_asking(line) {
-        let behind = put_reply(out, at, line);
-        return put_byte(out, behind, b'\n');
+        put_reply(page, line);
     }
-    put_byte(out, at, b'\n')
+    page.byte(b'\n');
 }
 
 // Answers every line of the input.
-fn answer_all(text: &mut [u8], out: &mut [u8]) {
-    let mut fill = 0;
+fn answer_all(text: &mut [u8], page: &mut Page<'_>) {
     let mut next = Line::first(text);
     while let Some(line) = next {
         let a = line.start;
         let e = line.end;
-        fill = made_room(out, fill, MOST);
-        fill = put_line(out, fill, &text[a..e]);
+        page.make_room(MOST);
+        put_line(page, &text[a..e]);
         next = line.behind(text);
     }
-    flush(out, fill);
+    page.flush();
 }
 
 fn main() {
     let mut text = io::large_buffer();
     let mut out = zeros::<ROOM>();
-    answer_all(&mut text, &mut out);
+    let mut page = Page::new(&mut out, 0);
+    answer_all(&mut text, &mut page);
 }

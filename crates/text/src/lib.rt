@@ -9,7 +9,6 @@
 
 pub mod feed;
 pub mod lines;
-pub mod old;
 pub mod page;
 pub mod scan;
 pub mod store;

@@ -1,68 +1,47 @@
 // A question, read off its line: `SKIPS EVENTS OPERANDS BYTES`, one space between.
-ghost use Rattle.std.specs.Prelude.{◌<◌, length};
+ghost use Rattle.std.specs.Prelude.{◌≤◌, IfSome};
+ghost use Rattle.trial.specs.declared.scan.TheConstants.{STORE};
 
-use text::scan::{decimal, find, find_behind, hex, skips};
+use text::front;
+use text::scan::{decimal, hex, skips};
+use text::store::numbers_of;
 
 // The most numbers that a store has.
 pub const STORE: usize = 8_192;
 
-// How many numbers are skipped, how many numbers each store has, and how many bytes the input; numbers and bytes go into lent buffers.
+// The block numbers to skip, how many numbers each store has, and the input.
 #[derive(Clone, Copy)]
-pub struct Question {
-    pub skips: usize,
+pub struct Question<'a> {
+    pub skip: &'a [u64],
     pub events: usize,
     pub operands: usize,
-    pub bytes: usize,
-}
-
-#[derive(Clone, Copy)]
-pub enum Scan {
-    Asked(Question),
-    Other,
+    pub input: &'a [u8],
+    ghost fits: { (events ≤ STORE) × (operands ≤ STORE) },
 }
 
 // The size of a store.
-fn size(word: &[u8]) -> Option<usize> {
-    let Some(n) = decimal(word) else {
-        return None;
-    };
-    if (STORE as u64) < n {
-        return None;
-    }
-    Some(n as usize)
-}
-
-// A question whose words end at these places.
-fn from_words(line: &[u8], list: &mut [u64], bytes: &mut [u8], a: usize, b: usize, c: usize) -> Scan
-    requires { (a < b) × (b < c) × (c < length line.now) }
+fn size(word: &[u8]) -> Option<usize>
+    ensures { IfSome result (λ n. n ≤ STORE) }
 {
-    let Some(skipped) = skips(&line[0..a], list) else {
-        return Scan::Other;
-    };
-    let Some(events) = size(&line[a + 1..b]) else {
-        return Scan::Other;
-    };
-    let Some(operands) = size(&line[b + 1..c]) else {
-        return Scan::Other;
-    };
-    let Some(count) = hex(&line[c + 1..], bytes) else {
-        return Scan::Other;
-    };
-    Scan::Asked(Question {
-        skips: skipped,
-        events,
-        operands,
-        bytes: count,
-    })
+    let n = decimal(word)? as usize;
+    if n <= STORE { Some(n) } else { None }
 }
 
 // The question on a line: the numbers to skip go into the list, the input into the bytes.
-pub fn question_on(line: &[u8], list: &mut [u64], bytes: &mut [u8]) -> Scan {
-    let a = find(line, 0, b' ');
-    let b = find_behind(line, a, b' ');
-    let c = find_behind(line, b, b' ');
-    if line.len() <= c {
-        return Scan::Other;
-    }
-    from_words(line, list, bytes, a, b, c)
+pub fn question_on<'a>(
+    line: &[u8],
+    list: &'a mut [u64],
+    bytes: &'a mut [u8],
+) -> Option<Question<'a>> {
+    let mut words = line.splitn(4, |letter| *letter == b' ');
+    let skipped = skips(words.next()?, list)?;
+    let events = size(words.next()?)?;
+    let operands = size(words.next()?)?;
+    let count = hex(words.next()?, bytes)?;
+    Some(Question {
+        skip: numbers_of(list, 0, skipped as u64),
+        events,
+        operands,
+        input: front(bytes, count),
+    })
 }

@@ -1,4 +1,4 @@
--- `trial::answer_all` is safe and ends. The line lies in the text, and all that is lent keeps its length. The measure is how many lines may come.
+-- `trial::answer_all` is safe and ends. The line lies in the text, which keeps its length. The measure is how many lines may come.
 use Prim.Native.Nat.{◌≤◌}
 use mathlib.Core.Path.{◌≡◌}
 use lib.ListN.{length}
@@ -7,11 +7,7 @@ use Rattle.text.proofs.Left.{lines_from}
 use Rattle.trial.proofs.answer_all.Given as goal
 
 abbrev pub invariant-loop-next : goal.invariant-loop-next
-invariant-loop-next l = IfSome l.next (λ line. (line.start ≤ line.end) × (line.end ≤ length l.text))
-    × (length l.text ≡ length l.initial.text)
-    × (length l.out ≡ length l.initial.out)
-    × (length l.events ≡ length l.initial.events)
-    × (length l.operands ≡ length l.initial.operands)
+invariant-loop-next l = IfSome l.next (λ line. (line.start ≤ line.end) × (line.end ≤ length l.text)) × (length l.text ≡ length l.initial.text)
 
 abbrev pub decreases-loop-next : goal.decreases-loop-next
 decreases-loop-next l = lines_from l.next

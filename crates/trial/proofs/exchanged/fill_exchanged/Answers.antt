@@ -1,40 +1,33 @@
--- `trial::exchanged::fill_exchanged` meets its contract: what is filled so far is the exchanged input so far. The measure is what is left of the input.
+-- `trial::exchanged::fill_exchanged` meets its contract: the two blocks' part, turned left by the length of the first, has them exchanged.
 -- Assumes nothing.
--- one byte more
--- the whole
-use mathlib.Core.Path.{◌≡◌, refl, sym, ap₂, ◌∙◌}
-use mathlib.Core.List.{List, [], ◌∷◌, ◌++◌}
-use Prim.Native.Nat.{ℕ, ◌+◌, ◌<◌}
-use native.Mathlib.Numerals.{add-one}
+use mathlib.Core.Path.{◌≡◌, sym, ap, ◌∙◌}
+use mathlib.Core.List.{List, ◌++◌, append_assoc}
+use Prim.Native.Nat.{ℕ, ◌-◌, ◌≤◌}
 use native.Mathlib.Omega.{arith}
-use lib.ListN.{length, get_or, set, take}
-use lib.Seq.{take-suc, take-suc-set, take_all}
+use lib.ListN.{take, drop}
+use lib.Seq.{drop-drop, take-take}
+use Rattle.std.proofs.lemmas.List.{drop-take}
 use Rattle.exchange.specs.Input.{exchange}
-use Rattle.exchange.proofs.Exchange.{length_exchange}
-use borrow.Author.Rules.{rules}
 use Rattle.trial.proofs.exchanged.fill_exchanged.Goals as goal
 
-more : (bytes e : List ℕ) (x v : ℕ) → x < length bytes → x < length e → v ≡ get_or e x 0 → take x bytes ≡ take x e
-    → take (x + 1) (set bytes x v) ≡ take (x + 1) e
-more bytes e x v h g p q = rw add-one (take-suc-set bytes x v h ∙ ap₂ (λ a b. a ++ (b ∷ [])) q p ∙ sym (take-suc e x 0 g))
+-- a part of what lies behind i, by its places in the whole
+part : (i k : ℕ) (l : List ℕ) → i ≤ k → take (k - i) (drop i l) ≡ drop i (take k l)
+part i k l h = sym (drop-take i (k - i) l) ∙ ap (λ n. drop i (take n l)) (omega arith)
 
-all : (bytes e : List ℕ) (x n : ℕ) → x ≡ n → length e ≡ n → take x bytes ≡ take x e → take n bytes ≡ e
-all bytes e x n h g p = rw (← h) (p ∙ take_all x e (omega arith))
+behind : (i j : ℕ) (l : List ℕ) → i ≤ j → drop (j - i) (drop i l) ≡ drop j l
+behind i j l h = drop-drop (j - i) i l ∙ ap (λ n. drop n l) (omega arith)
 
-pub loop-x-init : goal.loop-x-init
-loop-x-init c = (search rules, search rules, refl)
-
-pub loop-x-preserved : goal.loop-x-preserved
-loop-x-preserved c =
-    let a = c.args in
-    let e : length (exchange a.i a.j a.k a.input.now) ≡ length a.input.now =
-    length_exchange a.i a.j a.k a.input.now (omega arith) (omega arith) (omega arith) in (
-      search rules,
-      search rules,
-      more c.loop-x.bytes (exchange a.i a.j a.k a.input.now) c.loop-x.x
-          c.exchanged_byte.result (omega arith) (omega arith) c.exchanged_byte.ensures c.loop-x.invariant.2,
-    )
+turned : (i j k : ℕ) (l xs : List ℕ) → i ≤ j → j ≤ k
+    → xs ≡ drop (j - i) (take (k - i) (drop i l)) ++ take (j - i) (take (k - i) (drop i l))
+    → take i l ++ (xs ++ drop (k - i) (drop i l)) ≡ exchange i j k l
+unfolding exchange
+turned i j k l xs ij jk e =
+    let second : drop (j - i) (take (k - i) (drop i l)) ≡ drop j (take k l) =
+    ap (drop (j - i)) (part i k l (omega arith)) ∙ behind i j (take k l) ij in
+    let first : take (j - i) (take (k - i) (drop i l)) ≡ drop i (take j l) =
+    take-take (j - i) (k - i) (drop i l) (omega arith) ∙ part i j l ij in
+    simp (e, second, first, behind i k l (omega arith), append_assoc)
 
 pub returns : goal.returns
 returns c =
-    all _ _ c.loop-x.x _ (omega arith) (length_exchange _ _ _ _ (omega arith) (omega arith) (omega arith)) c.loop-x.invariant.2
+    turned _ _ _ _ _ (omega arith) (omega arith) c.rotate_left.ensures.after ∙ ap (exchange _ _ _) c.copy_from_slice.ensures.after
