@@ -137,13 +137,13 @@ fn take_all(
         answers: 0,
         same: 0,
     };
-    let mut line = Line::first(text);
-    while 0 < line.left {
+    let mut next = Line::first(text);
+    while let Some(line) = next {
         let a = line.start;
         let e = line.end;
         take_line(&mut t, &text[a..e], ours, events, operands);
         t.page.make_room(MOST);
-        line = line.behind(text);
+        next = line.behind(text);
     }
     t.put_total();
     t.page.flush();

@@ -7,3 +7,4 @@ pub mod Once
 pub mod Lengths
 pub mod Same
 pub mod Pages
+pub mod Left
