@@ -1,4 +1,3 @@
-pub mod Front
 pub mod Call
 pub mod Parts
 pub mod Typed

@@ -1,5 +1,6 @@
 -- Where the stream, and a blob in it, lies in the caller's input; and the exported calls for the header and a blob's place, of what the calls of
 -- `bitcode` say. Assumes nothing.
+use Rattle.std.specs.Prelude.{Ok, Err}
 use mathlib.Core.Bool.{Bool, true, false}
 use mathlib.Core.Path.{◌≡◌, refl, sym, ap, ◌∙◌}
 use mathlib.Core.List.{List, [], ◌∷◌}
@@ -9,9 +10,10 @@ use lib.ListN.{length, take, drop, length-drop}
 use lib.Seq.{length-take-le, take-take, drop-drop}
 use lib.Dec.{leb, eqb}
 use borrow.Author.Tests.{le-leb, lt-leb, leb-true, leb-false, eq-eqb, ne_eqb, eqb-true, eqb-false}
+use Rattle.terms.specs.Refusals.{no_of, number_of}
+use Rattle.terms.specs.declared.Reason.{Reason}
 use Rattle.bits.specs.Reader.{when◌then◌else◌}
 use Rattle.bitcode.specs.declared.Signature.{Signature}
-use Rattle.bitcode.specs.declared.Parsed.TheVariants.{Signed, Refused}
 use Rattle.bitcode.specs.Header.{Opened, unsigned, opened, wrapper_magic, signature, parsed, stream, bytes_of, blob_of}
 use Rattle.bitcode.proofs.Headers.{Opens, signature_opens, part_of, rest_of, bytes_outside, bytes_inside}
 use Rattle.gleanrime.specs.Told.{over}
@@ -90,38 +92,38 @@ module _ (bs : List ℕ) (place n : ℕ) where
 
 -- ---- the calls for the header, of what `Signature::parse` says
 module _ (bs : List ℕ) where
-  pub header_refused : {k : ℕ} (old ts : List ℕ) → parsed (signature bs) ≡ Refused k → ts ≡ over (0 ∷ 0 ∷ 0 ∷ 0 ∷ 0 ∷ 0 ∷ []) old
-      → ReturnsHeader bs old k ts
+  pub header_refused : {k : Reason} (old ts : List ℕ) → parsed (signature bs) ≡ Err k → ts ≡ over (0 ∷ 0 ∷ 0 ∷ 0 ∷ 0 ∷ 0 ∷ []) old
+      → ReturnsHeader bs old (number_of (no_of k)) ts
   unfolding parsed header_status header_numbers
   header_refused {k} old ts e x = go (signature bs) e
     where
-      go : (o : Opened) → parsed o ≡ Refused k → (k ≡ header_status o) × (ts ≡ over (header_numbers o) old)
+      go : (o : Opened) → parsed o ≡ Err k → (number_of (no_of k) ≡ header_status o) × (ts ≡ over (header_numbers o) old)
       go unsigned i = (cc, x)
       go (opened h s) i = absurd (let z : ◌≡◌ {A = ℕ} 0 1 = cc in omega arith)
 
-  pub header_signed : {h : Signature} (old ts : List ℕ) → parsed (signature bs) ≡ Signed h → ts ≡ over (six h) old → ReturnsHeader bs old 0 ts
+  pub header_signed : {h : Signature} (old ts : List ℕ) → parsed (signature bs) ≡ Ok h → ts ≡ over (six h) old → ReturnsHeader bs old 0 ts
   unfolding parsed header_status header_numbers
   header_signed {h} old ts e x = go (signature bs) e
     where
-      go : (o : Opened) → parsed o ≡ Signed h → (0 ≡ header_status o) × (ts ≡ over (header_numbers o) old)
+      go : (o : Opened) → parsed o ≡ Ok h → (0 ≡ header_status o) × (ts ≡ over (header_numbers o) old)
       go unsigned i = absurd (let z : ◌≡◌ {A = ℕ} 0 1 = cc in omega arith)
       go (opened g s) i = let k : g ≡ h = cc in (refl, rw k x)
 
   -- the stream's start
-  pub start_none : {k : ℕ} → parsed (signature bs) ≡ Refused k → 0 ≡ stream_from (signature bs)
+  pub start_none : {k : Reason} → parsed (signature bs) ≡ Err k → 0 ≡ stream_from (signature bs)
   unfolding parsed stream_from
   start_none {k} e = go (signature bs) e
     where
-      go : (o : Opened) → parsed o ≡ Refused k → 0 ≡ stream_from o
+      go : (o : Opened) → parsed o ≡ Err k → 0 ≡ stream_from o
       go unsigned i = refl
       go (opened h s) i = absurd (let z : ◌≡◌ {A = ℕ} 0 1 = cc in omega arith)
 
-  module _ {h : Signature} (e : parsed (signature bs) ≡ Signed h) where
+  module _ {h : Signature} (e : parsed (signature bs) ≡ Ok h) where
     start_by : stream_from (signature bs) ≡ (when eqb h.magic wrapper_magic then h.offset + 4 else 4)
     unfolding parsed stream_from
     start_by = go (signature bs) e
       where
-        go : (o : Opened) → parsed o ≡ Signed h → stream_from o ≡ (when eqb h.magic wrapper_magic then h.offset + 4 else 4)
+        go : (o : Opened) → parsed o ≡ Ok h → stream_from o ≡ (when eqb h.magic wrapper_magic then h.offset + 4 else 4)
         go unsigned i = absurd (let z : ◌≡◌ {A = ℕ} 0 1 = cc in omega arith)
         go (opened g s) i = let k : g ≡ h = cc in rw k
 

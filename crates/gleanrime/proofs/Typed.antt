@@ -6,7 +6,7 @@ use Prim.Native.Nat.{ℕ, ◌+◌, ◌^◌, ◌≤◌, ◌<◌, min}
 use native.Mathlib.Omega.{arith}
 use lib.IntN.{ℤ, pos}
 use lib.ListN.{length}
-use Rattle.terms.specs.Refusals.{No, no}
+use Rattle.terms.specs.Refusals.{No, number_of}
 use Rattle.bits.specs.Reader.{Reader, Answer, got, refused, onward, ◌>>=◌, give, require}
 use Rattle.bits.specs.Told.{At, Off}
 use Rattle.bits.specs.declared.Cursor.{Cursor}
@@ -68,8 +68,8 @@ module _ (s : List ℕ) (first count : ℕ) (o : Operands)
     uncut : (z : Answer No A) → m s o.end o.at ≡ z → operand m s first count ≡ z
     uncut z x = sym (alike (min (first + count) 18446744073709551615) (first + count) (omega arith) first) ∙ (rw (new.0, new.1) at x)
 
-    refused_so : {k : ℕ} → Off m s o.end o.at (no k 0 0)
-        → (k ≡ status_of (operand m s first count)) × (none ≡ value_or none (operand m s first count))
+    refused_so : {k : No} → Off m s o.end o.at k
+        → (number_of k ≡ status_of (operand m s first count)) × (none ≡ value_or none (operand m s first count))
     unfolding status_of value_or
     refused_so x = (rw (uncut _ x.why), rw (uncut _ x.why))
 
@@ -80,7 +80,7 @@ module _ (s : List ℕ) (first count : ℕ) (o : Operands)
 
   -- `Operands::u64`, and the test of the width
   module _ (bits : ℕ) where
-    pub unsigned_refused : {k : ℕ} → Off next s o.end o.at (no k 0 0) → ReturnsUnsigned s first count bits k 0
+    pub unsigned_refused : {k : No} → Off next s o.end o.at k → ReturnsUnsigned s first count bits (number_of k) 0
     unsigned_refused x = refused_so (next_below bits) 0 (below_alike s bits) (below_off bits x)
 
     pub unsigned_got : {v : ℕ} {d : Cursor} → At next s o.end o.at v d → v < 2 ^ bits → ReturnsUnsigned s first count bits 0 v
@@ -90,14 +90,14 @@ module _ (s : List ℕ) (first count : ℕ) (o : Operands)
     unsigned_over x h = refused_so (next_below bits) 0 (below_alike s bits) (below_over bits x refl h)
 
   -- `Operands::i64`
-  pub signed_refused : {k : ℕ} → Off next_signed s o.end o.at (no k 0 0) → ReturnsSigned s first count k (pos 0)
+  pub signed_refused : {k : No} → Off next_signed s o.end o.at k → ReturnsSigned s first count (number_of k) (pos 0)
   signed_refused x = refused_so next_signed (pos 0) (signed_alike s) x
 
   pub signed_got : {v w : ℤ} {d : Cursor} → At next_signed s o.end o.at v d → w ≡ v → ReturnsSigned s first count 0 w
   signed_got x e = rw e (got_so next_signed (pos 0) (signed_alike s) x)
 
   -- `Operands::range`
-  pub range_refused : {k : ℕ} → Off next_range s o.end o.at (no k 0 0) → ReturnsRange s first count k 0 0
+  pub range_refused : {k : No} → Off next_range s o.end o.at k → ReturnsRange s first count (number_of k) 0 0
   range_refused x = let r = refused_so next_range no_range (range_alike s) x in (r.0, (rw (← r.1), rw (← r.1)))
 
   pub range_got : (v : Range) {d : Cursor} → At next_range s o.end o.at v d → ReturnsRange s first count 0 v.start v.end

@@ -11,10 +11,8 @@ ghost use Rattle.gleanrime.specs.Told.{numbers, over};
 ghost use Rattle.gleanrime.specs.Header.{six, header_status, header_numbers, stream_from, blob_size, blob_from};
 ghost use Rattle.gleanrime.specs.Operands.{operand, status_of, value_or, no_range};
 
-use bitcode::{
-    LLVM_BITCODE_WRAPPER_MAGIC, NextI64, NextRange, NextU64, Operands, Parsed, Signature,
-};
-use terms::VALUE_OVERFLOW;
+use bitcode::{LLVM_BITCODE_WRAPPER_MAGIC, Operands, Signature};
+use terms::Reason;
 use walk::{Walked, walk};
 
 // How many numbers a walk returns.
@@ -38,11 +36,8 @@ fn numbers_of(w: Walked) -> [u64; TOLD]
 fn put_front(from: &[u64], to: &mut [u64])
     ensures { to.new ≡ over from.now to.old }
 {
-    let mut i: usize = 0;
-    while i < from.len() && i < to.len() {
-        to[i] = from[i];
-        i += 1;
-    }
+    let n = from.len().min(to.len());
+    to[..n].copy_from_slice(&from[..n]);
 }
 
 // The walk of an input, with the numbers of the blocks to skip and three stores lent. The third is for what the walk returned, as many numbers as fit
@@ -59,7 +54,7 @@ pub fn gleanrime_walk(
     ensures operands { operands.new ≡ (walked input.now skip.now (length events.old) (length operands.old)).operand_store }
     ensures told { told.new ≡ over (numbers (answer (walked input.now skip.now (length events.old) (length operands.old)))) told.old }
 {
-    let w = walk(input, skip, events, operands);
+    let w = Walked::from(walk(input, skip, events, operands));
     put_front(&numbers_of(w), told);
     w.status
 }
@@ -78,11 +73,11 @@ pub fn gleanrime_header(input: &[u8], told: &mut [u64]) -> u64
     ensures told { told.new ≡ over (header_numbers (signature input.now)) told.old }
 {
     match Signature::parse(input) {
-        Parsed::Refused(e) => {
+        Err(reason) => {
             put_front(&[0; HEADER], told);
-            e
+            reason.number()
         }
-        Parsed::Signed(h) => {
+        Ok(h) => {
             put_front(&six_of(h), told);
             0
         }
@@ -94,13 +89,9 @@ fn stream_start(input: &[u8]) -> u64
     ensures { result ≡ stream_from (signature input.now) }
 {
     match Signature::parse(input) {
-        Parsed::Refused(_) => 0,
-        Parsed::Signed(h) => {
-            if h.magic == LLVM_BITCODE_WRAPPER_MAGIC {
-                return h.offset + 4;
-            }
-            4
-        }
+        Err(_) => 0,
+        Ok(h) if h.magic == LLVM_BITCODE_WRAPPER_MAGIC => h.offset + 4,
+        Ok(_) => 4,
     }
 }
 
@@ -112,10 +103,7 @@ pub fn gleanrime_blob(input: &[u8], place: u64, length: u64, from: &mut u64) -> 
 {
     *from = 0;
     let have = Signature::stream(input).len() as u64;
-    if have < length {
-        return 0;
-    }
-    if have - length < place {
+    if have < length || have - length < place {
         return 0;
     }
     *from = stream_start(input) + place;
@@ -126,10 +114,7 @@ pub fn gleanrime_blob(input: &[u8], place: u64, length: u64, from: &mut u64) -> 
 fn fits(v: u64, bits: u64) -> bool
     ensures { result ≡ ltb v (2 ^ bits) }
 {
-    if 64 <= bits {
-        return true;
-    }
-    v < 1 << bits
+    64 <= bits || v < 1 << bits
 }
 
 // The operand at the place `first` of a store, where `count` are left in its record: it must be below 2^bits, so that 8, 16, 32 and 64 stand for u8
@@ -146,14 +131,12 @@ pub fn gleanrime_unsigned(
 {
     *value = 0;
     match Operands::new(first, count).u64(operands) {
-        NextU64::Refused(e) => e,
-        NextU64::Value(v, _) => {
-            if fits(v, bits) {
-                *value = v;
-                return 0;
-            }
-            VALUE_OVERFLOW
+        Ok((v, _)) if fits(v, bits) => {
+            *value = v;
+            0
         }
+        Ok(_) => Reason::ValueOverflow.number(),
+        Err(reason) => reason.number(),
     }
 }
 
@@ -164,11 +147,11 @@ pub fn gleanrime_signed(operands: &[u64], first: u64, count: u64, value: &mut i6
 {
     *value = 0;
     match Operands::new(first, count).i64(operands) {
-        NextI64::Refused(e) => e,
-        NextI64::Value(n, _) => {
+        Ok((n, _)) => {
             *value = n;
             0
         }
+        Err(reason) => reason.number(),
     }
 }
 
@@ -187,11 +170,11 @@ pub fn gleanrime_range(
     *start = 0;
     *end = 0;
     match Operands::new(first, count).range(operands) {
-        NextRange::Refused(e) => e,
-        NextRange::Value(v, _) => {
+        Ok((v, _)) => {
             *start = v.start;
             *end = v.end;
             0
         }
+        Err(reason) => reason.number(),
     }
 }

@@ -3,16 +3,16 @@ use mathlib.Core.Path.{ap}
 use native.Mathlib.Omega.{arith}
 use lib.ListN.{length}
 use Rattle.gleanrime.proofs.Parts.{stream_lies, blob_outside, blob_inside}
+use Rattle.gleanrime.proofs.gleanrime_blob.Goals.{then-have-length-via-then-have-length, then-have-length-via-else-have-length+then-have-length-2}
 use Rattle.gleanrime.proofs.gleanrime_blob.Goals as goal
 
 pub returns-then-have-length : goal.returns-then-have-length
 returns-then-have-length c =
-    let all = blob_outside _ _ _ (omega (arith, ap length c.stream.ensures)) in
-    record { size = all.0; from = all.1 }
-
-pub returns-then-have-length-2 : goal.returns-then-have-length-2
-returns-then-have-length-2 c =
-    let all = blob_outside _ _ _ (omega (arith, ap length c.stream.ensures)) in
+    let all = blob_outside c.args.input.now c.args.place c.args.length
+    (elim c.then-have-length.branch [
+      | then-have-length-via-then-have-length w ↦ omega (arith, ap length c.stream.ensures, w.if-have-length.true)
+      | then-have-length-via-else-have-length+then-have-length-2 w ↦ omega (arith, ap length c.stream.ensures, w.if-have-length.false, w.if-have-length-2.true)
+    ]) in
     record { size = all.0; from = all.1 }
 
 pub overflow_add-from : goal.overflow_add-from

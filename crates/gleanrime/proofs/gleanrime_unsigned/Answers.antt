@@ -5,25 +5,24 @@ use borrow.Author.Tests.{ltb-true, ltb-false}
 use Rattle.gleanrime.proofs.Typed.{unsigned_refused, unsigned_got, unsigned_over}
 use Rattle.gleanrime.proofs.gleanrime_unsigned.Goals as goal
 
-pub returns-then-fits : goal.returns-then-fits
-returns-then-fits c =
+pub returns-in-Ok : goal.returns-in-Ok
+returns-in-Ok c =
     let a = c.args in
     let all = unsigned_got a.operands.now a.first a.count _ c.new.ensures (omega arith) a.bits
-    (rw c.in-Value.is at c.u64.ensures)
+    (rw c.in-Ok.is at c.u64.ensures)
     (ltb-true _ _ (sym c.fits.ensures ∙ c.if-fits.true)) in
     record { status = all.0; value = all.1 }
 
-pub returns-in-Refused : goal.returns-in-Refused
-returns-in-Refused c =
-    let a = c.args in
-    let all = unsigned_refused a.operands.now a.first a.count _ c.new.ensures (omega arith) a.bits
-    (rw c.in-Refused.is at c.u64.ensures) in
-    record { status = all.0; value = all.1 }
-
-pub returns-else-fits : goal.returns-else-fits
-returns-else-fits c =
+pub returns-in-Ok-2 : goal.returns-in-Ok-2
+returns-in-Ok-2 c =
     let a = c.args in
     let all = unsigned_over a.operands.now a.first a.count _ c.new.ensures (omega arith) a.bits
-    (rw c.in-Value.is at c.u64.ensures)
+    (rw c.in-Ok.is at c.u64.ensures)
     (ltb-false _ _ (sym c.fits.ensures ∙ c.if-fits.false)) in
-    record { status = all.0; value = all.1 }
+    record { status = c.number.ensures ∙ all.0; value = all.1 }
+
+pub returns-in-Err : goal.returns-in-Err
+returns-in-Err c =
+    let a = c.args in
+    let all = unsigned_refused a.operands.now a.first a.count _ c.new.ensures (omega arith) a.bits c.in-Err.ensures in
+    record { status = c.number-in-Err.ensures ∙ all.0; value = all.1 }

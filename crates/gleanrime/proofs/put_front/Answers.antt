@@ -1,35 +1,29 @@
--- `gleanrime::put_front` meets its contract: the store holds the numbers that have been put, and behind them what it held. Assumes nothing.
-use Prim.Native.Nat.{◌<◌}
-use mathlib.Core.Path.{refl, ◌∙◌}
+-- `gleanrime::put_front` meets its contract: the lesser of the two lengths cuts nothing but what does not fit. Assumes nothing.
+use mathlib.Core.Bool.{Bool, true, false}
+use mathlib.Core.List.{List, ◌++◌}
+use mathlib.Core.Path.{◌≡◌, refl}
+use Prim.Native.Nat.{ℕ, min}
 use native.Mathlib.Omega.{arith}
-use lib.ListN.{length, length-set}
-use Rattle.gleanrime.proofs.Front.{so_far_more, so_far_all, so_far_full}
-use borrow.Author.Rules.{rules}
-use borrow.Author.Tests.{ltb-true, ltb-false}
+use lib.Dec.{leb}
+use lib.ListN.{length, take, drop, drop_of_length-le}
+use lib.Seq.{take_all}
+use borrow.Author.Tests.{leb-true, leb-false}
+use Rattle.gleanrime.specs.Told.{over}
 use Rattle.gleanrime.proofs.put_front.Goals as goal
 
-pub loop-i-init : goal.loop-i-init
-loop-i-init c = (search rules, search rules, refl, refl)
+front : (new old : List ℕ) (n : ℕ) → n ≡ min (length new) (length old) → take n new ++ drop n old ≡ over new old
+unfolding over
+front new old n e = go (leb (length new) (length old)) refl
+  where
+    go : (b : Bool) → leb (length new) (length old) ≡ b → take n new ++ drop n old ≡ take (length old) new ++ drop (length new) old
+    go true i =
+        let h = leb-true _ _ i in
+        let k : n ≡ length new = omega (arith, h, e) in
+        rw (take_all n new (omega arith), take_all (length old) new h, k)
+    go false i =
+        let h = leb-false _ _ i in
+        let k : n ≡ length old = omega (arith, h, e) in
+        rw (k, drop_of_length-le old {i = length old} (omega arith), drop_of_length-le old {i = length new} (omega (arith, h)))
 
-pub loop-i-preserved : goal.loop-i-preserved
-loop-i-preserved c =
-    let l = c.loop-i in
-    let a = c.args in
-    let h : l.i < length a.to.now = omega (arith, ltb-true) in (
-      search rules,
-      omega arith,
-      length-set l.to l.i _ ∙ l.invariant.2,
-      rw l.invariant.3 (so_far_more a.from.now a.to.now l.i (search rules) h),
-    )
-
-pub returns-else-i-to : goal.returns-else-i-to
-returns-else-i-to c =
-    let l = c.loop-i in
-    let a = c.args in
-    l.invariant.3 ∙ so_far_full a.from.now a.to.now l.i (omega (arith, ltb-false)) l.invariant.0
-
-pub returns-after-loop-i : goal.returns-after-loop-i
-returns-after-loop-i c =
-    let l = c.loop-i in
-    let a = c.args in
-    l.invariant.3 ∙ so_far_all a.from.now a.to.now l.i (omega arith) l.invariant.1
+pub returns : goal.returns
+returns c = rw c.copy_from_slice.ensures.after (front c.args.from.now c.args.to.now c.min-n.result c.min-n.ensures)

@@ -7,17 +7,14 @@ use Rattle.gleanrime.proofs.stream_start.Goals as goal
 
 pub overflow_add-result : goal.overflow_add-result
 overflow_add-result c =
-    let p = c.parse in
-    let w = (parsed_opens _ _ (sym p.ensures ∙ c.in-Signed.is)).wraps c.if-h-eq-LLVM_BITCODE_WRAPPER_MAGIC.true in
+    let w = (parsed_opens _ _ (sym c.parse.ensures ∙ c.in-Ok.is)).wraps c.if-h-eq-LLVM_BITCODE_WRAPPER_MAGIC.true in
     omega (arith, w.inside, w.holds)
 
-pub returns-then-h-eq-LLVM_BITCODE_WRAPPER_MAGIC : goal.returns-then-h-eq-LLVM_BITCODE_WRAPPER_MAGIC
-returns-then-h-eq-LLVM_BITCODE_WRAPPER_MAGIC c =
-    let p = c.parse in
-    start_wrapped _ (sym p.ensures ∙ c.in-Signed.is) c.if-h-eq-LLVM_BITCODE_WRAPPER_MAGIC.true
+pub returns-in-Err : goal.returns-in-Err
+returns-in-Err c = start_none _ (sym c.parse.ensures ∙ c.in-Err.is)
 
-pub returns-in-Refused : goal.returns-in-Refused
-returns-in-Refused c = start_none _ (sym c.parse.ensures ∙ c.in-Refused.is)
+pub returns-in-Ok : goal.returns-in-Ok
+returns-in-Ok c = start_wrapped _ (sym c.parse.ensures ∙ c.in-Ok.is) c.if-h-eq-LLVM_BITCODE_WRAPPER_MAGIC.true
 
-pub returns-else-h-eq-LLVM_BITCODE_WRAPPER_MAGIC : goal.returns-else-h-eq-LLVM_BITCODE_WRAPPER_MAGIC
-returns-else-h-eq-LLVM_BITCODE_WRAPPER_MAGIC c = start_plain _ (sym c.parse.ensures ∙ c.in-Signed.is) c.if-h-eq-LLVM_BITCODE_WRAPPER_MAGIC.false
+pub returns-in-Ok-2 : goal.returns-in-Ok-2
+returns-in-Ok-2 c = start_plain _ (sym c.parse.ensures ∙ c.in-Ok.is) c.if-h-eq-LLVM_BITCODE_WRAPPER_MAGIC.false
