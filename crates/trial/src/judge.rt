@@ -40,7 +40,7 @@ fn compared(p: Places, was: Side<'_>, is: Side<'_>) -> Result<Plan, Fault> {
 }
 
 // Walks an input and the exchanged input, each as the question says, and compares them.
-fn exchanged(p: Places, q: Question<'_>, other: &[u8]) -> Result<Plan, Fault> {
+fn judged(p: Places, q: Question<'_>, other: &[u8]) -> Result<Plan, Fault> {
     let mut stores = Stores::new();
     let was = Side::of(q.input, q, &mut stores).map_err(Fault::Was)?;
     let mut other_stores = Stores::new();
@@ -56,7 +56,7 @@ fn asked(words: &[u8]) -> Option<Result<Plan, Fault>> {
     let (places, line) = exchange_on(words)?;
     let question = question_on(line, &mut list, &mut bytes)?;
     let other = exchange_into(question.input, places, &mut room)?;
-    Some(exchanged(places, question, other))
+    Some(judged(places, question, other))
 }
 
 // The line of a refusal.
