@@ -24,12 +24,11 @@ mod hold;
 mod scan;
 
 use hold::held;
-use scan::{answer_on, question_on};
+use scan::{Question, question_on};
 use text::feed::{Line, zeros};
 use text::front;
 use text::page::Page;
 use text::scan::{MOST_SKIPS, is_asking};
-use text::store::numbers_of;
 
 // The numbers of each of the two stores that are lent.
 const STORE: usize = 8_192;
@@ -76,17 +75,16 @@ impl Tally<'_> {
     }
 }
 
-// Holds the answer on a line against ours.
+// Holds the answer of the list on a line against ours.
 fn judge(
     t: &mut Tally,
     line: &[u8],
+    q: Question,
     ours: &mut [u8],
-    input: &[u8],
-    skip: &[u64],
     events: &mut [u64],
     operands: &mut [u64],
 ) {
-    let h = held(answer_on(line), ours, input, skip, events, operands);
+    let h = held(q.answer, ours, q.input, q.skip, events, operands);
     t.count(h.same);
     if !h.same {
         t.put_line(line);
@@ -99,14 +97,13 @@ fn judge(
 fn ask(t: &mut Tally, line: &[u8], ours: &mut [u8], events: &mut [u64], operands: &mut [u64]) {
     let mut list = [0u64; MOST_SKIPS];
     let mut bytes = [0u8; INPUT];
-    let Some(q) = question_on(line, &mut list, &mut bytes) else {
-        t.put_line(line);
-        t.page.bytes(b"  ?\n");
-        return;
-    };
-    let input = front(&bytes, q.bytes);
-    let skip = numbers_of(&list, 0, q.skips as u64);
-    judge(t, line, ours, input, skip, events, operands);
+    match question_on(line, &mut list, &mut bytes) {
+        Some(q) => judge(t, line, q, ours, events, operands),
+        None => {
+            t.put_line(line);
+            t.page.bytes(b"  ?\n");
+        }
+    }
 }
 
 // A line of the list.
