@@ -76,29 +76,32 @@ impl Tally<'_> {
 }
 
 // Holds the answer of the list on a line against ours.
-fn judge(
-    t: &mut Tally,
-    line: &[u8],
-    q: Question,
-    ours: &mut [u8],
-    events: &mut [u64],
-    operands: &mut [u64],
-) {
-    let h = held(q.answer, ours, q.input, q.skip, events, operands);
+fn judge(t: &mut Tally, line: &[u8], q: Question) {
+    let mut ours = zeros::<OURS>();
+    let mut events = [0u64; STORE];
+    let mut operands = [0u64; STORE];
+    let h = held(
+        q.answer,
+        &mut ours,
+        q.input,
+        q.skip,
+        &mut events,
+        &mut operands,
+    );
     t.count(h.same);
     if !h.same {
         t.put_line(line);
         t.page.bytes(b"  ours ");
-        t.put_line(front(ours, h.fill));
+        t.put_line(front(&ours, h.fill));
     }
 }
 
 // A line that is neither empty nor a comment.
-fn ask(t: &mut Tally, line: &[u8], ours: &mut [u8], events: &mut [u64], operands: &mut [u64]) {
+fn ask(t: &mut Tally, line: &[u8]) {
     let mut list = [0u64; MOST_SKIPS];
     let mut bytes = [0u8; INPUT];
     match question_on(line, &mut list, &mut bytes) {
-        Some(q) => judge(t, line, q, ours, events, operands),
+        Some(q) => judge(t, line, q),
         None => {
             t.put_line(line);
             t.page.bytes(b"  ?\n");
@@ -107,38 +110,21 @@ fn ask(t: &mut Tally, line: &[u8], ours: &mut [u8], events: &mut [u64], operands
 }
 
 // A line of the list.
-fn take_line(
-    t: &mut Tally,
-    line: &[u8],
-    ours: &mut [u8],
-    events: &mut [u64],
-    operands: &mut [u64],
-) {
+fn take_line(t: &mut Tally, line: &[u8]) {
     if is_asking(line) {
-        ask(t, line, ours, events, operands);
+        ask(t, line);
     } else {
         t.put_line(line);
     }
 }
 
 // Takes every line of the list; room is made behind each, so that the last line of the output has it too.
-fn take_all(
-    text: &mut [u8],
-    out: &mut [u8],
-    ours: &mut [u8],
-    events: &mut [u64],
-    operands: &mut [u64],
-) {
-    let mut t = Tally {
-        page: Page::new(out, 0),
-        answers: 0,
-        same: 0,
-    };
+fn take_all(t: &mut Tally, text: &mut [u8]) {
     let mut next = Line::first(text);
     while let Some(line) = next {
         let a = line.start;
         let e = line.end;
-        take_line(&mut t, &text[a..e], ours, events, operands);
+        take_line(t, &text[a..e]);
         t.page.make_room(MOST);
         next = line.behind(text);
     }
@@ -149,8 +135,10 @@ fn take_all(
 fn main() {
     let mut text = io::large_buffer();
     let mut out = zeros::<ROOM>();
-    let mut ours = zeros::<OURS>();
-    let mut events = [0u64; STORE];
-    let mut operands = [0u64; STORE];
-    take_all(&mut text, &mut out, &mut ours, &mut events, &mut operands);
+    let mut tally = Tally {
+        page: Page::new(&mut out, 0),
+        answers: 0,
+        same: 0,
+    };
+    take_all(&mut tally, &mut text);
 }
