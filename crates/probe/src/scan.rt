@@ -38,16 +38,11 @@ pub fn question_on<'a>(line: &[u8], bytes: &'a mut [u8]) -> Option<Question<'a>>
     let [letter] = words.next()? else {
         return None;
     };
-    let call = Call::from_letter(*letter)?;
-    let n = decimal(words.next()?)?;
-    let at = decimal(words.next()?)?;
-    let end = decimal(words.next()?)?;
-    let bytes = hex(words.next()?, bytes)?;
     Some(Question {
-        call,
-        n,
-        at,
-        end,
-        bytes,
+        call: Call::from_letter(*letter)?,
+        n: decimal(words.next()?)?,
+        at: decimal(words.next()?)?,
+        end: decimal(words.next()?)?,
+        bytes: hex(words.next()?, bytes)?,
     })
 }

@@ -32,14 +32,10 @@ pub fn question_on<'a>(
     bytes: &'a mut [u8],
 ) -> Option<Question<'a>> {
     let mut words = line.splitn(4, |letter| *letter == b' ');
-    let skip = skips(words.next()?, list)?;
-    let events = size(words.next()?)?;
-    let operands = size(words.next()?)?;
-    let input = hex(words.next()?, bytes)?;
     Some(Question {
-        skip,
-        events,
-        operands,
-        input,
+        skip: skips(words.next()?, list)?,
+        events: size(words.next()?)?,
+        operands: size(words.next()?)?,
+        input: hex(words.next()?, bytes)?,
     })
 }
