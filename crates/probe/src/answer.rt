@@ -65,7 +65,7 @@ impl Answer<'_> {
     }
 }
 
-// What a call answered, or the number of its refusal.
+// What a call answered, or the number of why it is refused.
 pub fn put_answer(page: &mut Page<'_>, answer: Result<Answer<'_>, Reason>) {
     match answer {
         Ok(answer) => answer.put(page),

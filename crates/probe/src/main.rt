@@ -54,13 +54,13 @@ fn put_line(page: &mut Page<'_>, line: &[u8]) {
 
 // Answers every line of the input.
 fn answer_all(text: &mut [u8], page: &mut Page<'_>) {
-    let mut line = Line::first(text);
-    while 0 < line.left {
+    let mut next = Line::first(text);
+    while let Some(line) = next {
         let a = line.start;
         let e = line.end;
         page.make_room(MOST);
         put_line(page, &text[a..e]);
-        line = line.behind(text);
+        next = line.behind(text);
     }
     page.flush();
 }

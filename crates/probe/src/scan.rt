@@ -2,7 +2,6 @@
 use crate::call::Call;
 use bitcode::Operands;
 use bits::Cursor;
-use text::front;
 use text::scan::{decimal, hex};
 
 // What is asked, with the numbers and the bytes that come with it.
@@ -39,16 +38,11 @@ pub fn question_on<'a>(line: &[u8], bytes: &'a mut [u8]) -> Option<Question<'a>>
     let [letter] = words.next()? else {
         return None;
     };
-    let call = Call::from_letter(*letter)?;
-    let n = decimal(words.next()?)?;
-    let at = decimal(words.next()?)?;
-    let end = decimal(words.next()?)?;
-    let count = hex(words.next()?, bytes)?;
     Some(Question {
-        call,
-        n,
-        at,
-        end,
-        bytes: front(bytes, count),
+        call: Call::from_letter(*letter)?,
+        n: decimal(words.next()?)?,
+        at: decimal(words.next()?)?,
+        end: decimal(words.next()?)?,
+        bytes: hex(words.next()?, bytes)?,
     })
 }

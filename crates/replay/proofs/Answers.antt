@@ -1,5 +1,5 @@
 -- Laws of the notation, and of an answer that is held against ours. Assumes nothing.
-use mathlib.Core.Bool.{Bool, false, false≢true}
+use mathlib.Core.Bool.{Bool}
 use mathlib.Core.List.{List, [], ◌∷◌, ◌++◌, append-nil, append_assoc}
 use mathlib.Core.Path.{◌≡◌, refl, sym, ap, ◌∙◌}
 use Prim.Native.Nat.{ℕ, ◌+◌}
@@ -28,12 +28,9 @@ pub texts_more : (i : ℕ) (events ops input : List ℕ)
 unfolding event_texts
 texts_more i events ops input = rw (add-one i)
 
--- ---- our answer in its buffer: it fills it, or it stands there whole
+-- ---- our answer in its buffer, where it stands whole unless it fills it
 room_kept : {buffer after ours : List ℕ} {n : ℕ} → Puts buffer after 0 n ours → length after ≡ length buffer
 room_kept {buffer} {ours = ours} p = ap length p.bytes ∙ length-sets buffer 0 ours
-
-pub holds_none : {buffer after ours given : List ℕ} {n : ℕ} → Puts buffer after 0 n ours → n ≡ length after → Holds false (length buffer) given ours
-holds_none p e = record { if_told = λ t. absurd (false≢true t); if_same = λ q h. absurd (omega (arith, p.mark, room_kept p)) }
 
 pub holds_whole : {buffer after ours given : List ℕ} {n : ℕ} {told : Bool} → Puts buffer after 0 n ours → (n ≡ length after → ⊥) → Tells told (take n after) given
     → Holds told (length buffer) given ours

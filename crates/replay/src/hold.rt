@@ -44,15 +44,7 @@ pub fn held(
     ensures ours { Puts ours.old ours.new 0 result.fill (answered input.now skip.now (length events.old) (length operands.old)) }
     ensures same { Holds result.same (length ours.old) answer.now (answered input.now skip.now (length events.old) (length operands.old)) }
 {
-    let n = put_ours(ours, input, skip, events, operands);
-    if n == ours.len() {
-        return Verdict {
-            fill: n,
-            same: false,
-        };
-    }
-    Verdict {
-        fill: n,
-        same: same_bytes(front(ours, n), answer),
-    }
+    let fill = put_ours(ours, input, skip, events, operands);
+    let same = fill != ours.len() && same_bytes(front(ours, fill), answer);
+    Verdict { fill, same }
 }

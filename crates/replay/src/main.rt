@@ -24,12 +24,11 @@ mod hold;
 mod scan;
 
 use hold::held;
-use scan::{answer_on, question_on};
+use scan::{Question, question_on};
 use text::feed::{Line, zeros};
 use text::front;
 use text::page::Page;
 use text::scan::{MOST_SKIPS, is_asking};
-use text::store::numbers_of;
 
 // The numbers of each of the two stores that are lent.
 const STORE: usize = 8_192;
@@ -76,74 +75,58 @@ impl Tally<'_> {
     }
 }
 
-// Holds the answer on a line against ours.
-fn judge(
-    t: &mut Tally,
-    line: &[u8],
-    ours: &mut [u8],
-    input: &[u8],
-    skip: &[u64],
-    events: &mut [u64],
-    operands: &mut [u64],
-) {
-    let h = held(answer_on(line), ours, input, skip, events, operands);
+// Holds the answer of the list on a line against ours.
+fn judge(t: &mut Tally, line: &[u8], q: Question) {
+    let mut ours = zeros::<OURS>();
+    let mut events = [0u64; STORE];
+    let mut operands = [0u64; STORE];
+    let h = held(
+        q.answer,
+        &mut ours,
+        q.input,
+        q.skip,
+        &mut events,
+        &mut operands,
+    );
     t.count(h.same);
     if !h.same {
         t.put_line(line);
         t.page.bytes(b"  ours ");
-        t.put_line(front(ours, h.fill));
+        t.put_line(front(&ours, h.fill));
     }
 }
 
 // A line that is neither empty nor a comment.
-fn ask(t: &mut Tally, line: &[u8], ours: &mut [u8], events: &mut [u64], operands: &mut [u64]) {
+fn ask(t: &mut Tally, line: &[u8]) {
     let mut list = [0u64; MOST_SKIPS];
     let mut bytes = [0u8; INPUT];
-    let Some(q) = question_on(line, &mut list, &mut bytes) else {
-        t.put_line(line);
-        t.page.bytes(b"  ?\n");
-        return;
-    };
-    let input = front(&bytes, q.bytes);
-    let skip = numbers_of(&list, 0, q.skips as u64);
-    judge(t, line, ours, input, skip, events, operands);
+    match question_on(line, &mut list, &mut bytes) {
+        Some(q) => judge(t, line, q),
+        None => {
+            t.put_line(line);
+            t.page.bytes(b"  ?\n");
+        }
+    }
 }
 
 // A line of the list.
-fn take_line(
-    t: &mut Tally,
-    line: &[u8],
-    ours: &mut [u8],
-    events: &mut [u64],
-    operands: &mut [u64],
-) {
+fn take_line(t: &mut Tally, line: &[u8]) {
     if is_asking(line) {
-        ask(t, line, ours, events, operands);
+        ask(t, line);
     } else {
         t.put_line(line);
     }
 }
 
 // Takes every line of the list; room is made behind each, so that the last line of the output has it too.
-fn take_all(
-    text: &mut [u8],
-    out: &mut [u8],
-    ours: &mut [u8],
-    events: &mut [u64],
-    operands: &mut [u64],
-) {
-    let mut t = Tally {
-        page: Page::new(out, 0),
-        answers: 0,
-        same: 0,
-    };
-    let mut line = Line::first(text);
-    while 0 < line.left {
+fn take_all(t: &mut Tally, text: &mut [u8]) {
+    let mut next = Line::first(text);
+    while let Some(line) = next {
         let a = line.start;
         let e = line.end;
-        take_line(&mut t, &text[a..e], ours, events, operands);
+        take_line(t, &text[a..e]);
         t.page.make_room(MOST);
-        line = line.behind(text);
+        next = line.behind(text);
     }
     t.put_total();
     t.page.flush();
@@ -152,8 +135,10 @@ fn take_all(
 fn main() {
     let mut text = io::large_buffer();
     let mut out = zeros::<ROOM>();
-    let mut ours = zeros::<OURS>();
-    let mut events = [0u64; STORE];
-    let mut operands = [0u64; STORE];
-    take_all(&mut text, &mut out, &mut ours, &mut events, &mut operands);
+    let mut tally = Tally {
+        page: Page::new(&mut out, 0),
+        answers: 0,
+        same: 0,
+    };
+    take_all(&mut tally, &mut text);
 }

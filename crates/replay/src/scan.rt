@@ -1,25 +1,27 @@
 // A line of the list, taken apart: `SKIPS BYTES ANSWER`, one space between.
-use text::scan::{behind_word, hex, skips, word};
+use text::scan::{hex, skips};
 
-// How many numbers are skipped, and how many bytes the input has; both go into lent buffers.
+// The block numbers to skip, the input, and the answer that the list has.
 #[derive(Clone, Copy)]
-pub struct Question {
-    pub skips: usize,
-    pub bytes: usize,
+pub struct Question<'a> {
+    pub skip: &'a [u64],
+    pub input: &'a [u8],
+    pub answer: &'a [u8],
 }
 
-// The answer on a line: all that stands behind the second space.
-pub fn answer_on(line: &[u8]) -> &[u8] {
-    behind_word(behind_word(line))
-}
-
-// The question on a line that has an answer too: the numbers to skip go into the list, the input into the bytes.
-pub fn question_on(line: &[u8], list: &mut [u64], bytes: &mut [u8]) -> Option<Question> {
+// The question on a line that has an answer too, all that stands behind the second space: the numbers to skip go into the list, the input into the bytes.
+pub fn question_on<'a>(
+    line: &'a [u8],
+    list: &'a mut [u64],
+    bytes: &'a mut [u8],
+) -> Option<Question<'a>> {
+    let mut words = line.splitn(3, |letter| *letter == b' ');
     let question = Question {
-        skips: skips(word(line), list)?,
-        bytes: hex(word(behind_word(line)), bytes)?,
+        skip: skips(words.next()?, list)?,
+        input: hex(words.next()?, bytes)?,
+        answer: words.next()?,
     };
-    if answer_on(line).is_empty() {
+    if question.answer.is_empty() {
         return None;
     }
     Some(question)

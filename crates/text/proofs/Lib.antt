@@ -5,5 +5,5 @@ pub mod Signs
 pub mod Parts
 pub mod Once
 pub mod Lengths
-pub mod Same
 pub mod Pages
+pub mod Left

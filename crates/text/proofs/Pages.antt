@@ -1,7 +1,7 @@
 -- How text goes onto a page piece by piece, and what that does to the buffer that it is a page of. Assumes nothing.
 use mathlib.Core.List.{List, [], ◌++◌}
 use mathlib.Core.Path.{◌≡◌, refl, sym, ◌∙◌}
-use Prim.Native.Nat.{ℕ, ◌+◌, ◌<◌, ◌≤◌}
+use Prim.Native.Nat.{ℕ, ◌+◌, ◌<◌}
 use denote.Ref.{MutBor}
 use lib.ListN.{length, take, get_or}
 use Rattle.text.specs.declared.page.Page.{Page}

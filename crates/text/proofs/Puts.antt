@@ -32,12 +32,6 @@ sets_from l i k b =
 pub puts_none : (l : List ℕ) (fill : ℕ) → Puts l l fill fill []
 puts_none l fill = record { bytes = refl; mark = omega arith }
 
-pub puts_byte : (l : List ℕ) (fill b : ℕ) → fill < length l → Puts l (set l fill b) fill (fill + 1) (b ∷ [])
-puts_byte l fill b h = record { bytes = refl; mark = omega arith }
-
-pub puts_full : (l : List ℕ) (fill : ℕ) (text : List ℕ) → length l ≤ fill → Puts l l fill fill text
-puts_full l fill text h = record { bytes = sym (sets_out l fill text h); mark = omega arith }
-
 pub puts_then : {l l' l'' : List ℕ} {f g h : ℕ} {a b : List ℕ} → Puts l l' f g a → Puts l' l'' g h b → Puts l l'' f h (a ++ b)
 puts_then {l} {l'} {l''} {f} {g} {h} {a} {b} x y =
     let n : length l' ≡ length l = ap length x.bytes ∙ length-sets l f a in

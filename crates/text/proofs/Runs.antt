@@ -1,11 +1,11 @@
 -- Loops that put a list element by element: one more element is its text behind the text of those before it. Assumes nothing.
 use mathlib.Core.List.{List, [], ◌∷◌, ◌++◌, append-nil, append_assoc}
 use mathlib.Core.Path.{◌≡◌, refl, sym, ap, ◌∙◌}
-use Prim.Native.Nat.{ℕ, zero, suc, ◌+◌, ◌≤◌, ◌<◌}
+use Prim.Native.Nat.{ℕ, zero, suc, ◌+◌, ◌<◌}
 use native.Mathlib.Numerals.{add-one}
 use native.Mathlib.Omega.{arith}
 use lib.ListN.{length, take, get_or}
-use lib.Seq.{take-suc, take_all, length-take-le}
+use lib.Seq.{take-suc, length-take-le}
 use Rattle.text.specs.Text.{Puts, decimal, pair, pairs, hex, item, items}
 use Rattle.text.proofs.Puts.{puts_then}
 
@@ -46,9 +46,6 @@ module _ {all : List ℕ → List ℕ} {one : ℕ → ℕ → List ℕ} (t : Tex
       = ap all (ap (λ (k : ℕ). take k s) (add-one i) ∙ take-suc s i 0 b) ∙ t.more (take i s) (get_or s i 0)
       ∙ ap (λ (k : ℕ). all (take i s) ++ one k (get_or s i 0)) (length-take-le i s (omega arith)) in
       rw e (puts_then x y)
-
-  pub run_all : {l l' : List ℕ} {f g : ℕ} (s : List ℕ) (i : ℕ) → length s ≤ i → Puts l l' f g (all (take i s)) → Puts l l' f g (all s)
-  run_all s i b x = rw (take_all i s b) at x
 
 -- the cases of a list's item and of bytes in hex, as the code tests them
 pub first_item : (i v : ℕ) → i ≡ 0 → item i v ≡ decimal v

@@ -1,5 +1,5 @@
 // Standard input line by line, and pages to standard output, each through a lent buffer.
-ghost use Rattle.std.specs.Prelude.{◌≡◌, ◌+◌, ◌-◌, ◌≤◌, length, slice_index, EachIndex};
+ghost use Rattle.std.specs.Prelude.{◌≡◌, ◌+◌, ◌<◌, ◌≤◌, length, slice_index, EachIndex, IfSome};
 ghost use Rattle.text.specs.Page.{Keeps};
 
 use crate::front;
@@ -23,7 +23,7 @@ pub fn zeros<const N: usize>() -> [u8; N]
 }
 
 // A line of the input: where it starts and ends in the buffer, its line end left out; where the next one starts and where what is read ends; and how many
-// lines there may be from this one on, 0 where there is none.
+// lines there may be behind it.
 #[derive(Clone, Copy)]
 pub struct Line {
     pub start: usize,
@@ -31,19 +31,6 @@ pub struct Line {
     pub next: usize,
     pub filled: usize,
     pub left: u64,
-}
-
-// No line.
-fn no_line() -> Line
-    ensures { (result.start ≡ 0) × (result.end ≡ 0) × (result.left ≡ 0) }
-{
-    Line {
-        start: 0,
-        end: 0,
-        next: 0,
-        filled: 0,
-        left: 0,
-    }
 }
 
 // Moves what lies from one place to another to the front; tells how much that is.
@@ -67,53 +54,51 @@ fn read_behind(text: &mut [u8], n: usize) -> usize
 
 // The next line where what is left of the text, from one place to another, has no line end: more is read behind it. What has no line end still is a line,
 // if it is not empty: it fills the buffer, or the input ends.
-fn read_line(text: &mut [u8], from: usize, end: usize, left: u64) -> Line
+fn read_line(text: &mut [u8], from: usize, end: usize, left: u64) -> Option<Line>
     requires { end ≤ length text.old }
-    ensures { (result.start ≤ result.end) × (result.end ≤ length text.new) × (result.left ≤ left) }
+    ensures { IfSome result (λ line. (line.start ≤ line.end) × (line.end ≤ length text.new) × (line.left ≡ left)) }
 {
     let kept = to_front(text, from, end);
     let filled = read_behind(text, kept);
     if filled == 0 {
-        return no_line();
+        return None;
     }
-    let e = find(&text[0..filled], kept, b'\n');
-    Line {
+    let e = find(&text[..filled], kept, b'\n');
+    Some(Line {
         start: 0,
         end: e,
         next: e + 1,
         filled,
         left,
-    }
+    })
 }
 
 impl Line {
-    // The first line.
-    pub fn first(text: &mut [u8]) -> Self
-        ensures { (result.start ≤ result.end) × (result.end ≤ length text.new) }
+    // The first line, if there is one.
+    pub fn first(text: &mut [u8]) -> Option<Self>
+        ensures { IfSome result (λ line. (line.start ≤ line.end) × (line.end ≤ length text.new)) }
     {
-        read_line(text, 0, 0, MOST_LINES)
+        read_line(text, 0, 0, MOST_LINES - 1)
     }
 
-    // The line behind this one.
-    pub fn behind(self, text: &mut [u8]) -> Self
-        ensures { (result.start ≤ result.end) × (result.end ≤ length text.new) × (result.left ≤ self.left - 1) }
+    // The line behind this one, if there is one.
+    pub fn behind(self, text: &mut [u8]) -> Option<Self>
+        ensures { IfSome result (λ line. (line.start ≤ line.end) × (line.end ≤ length text.new) × (line.left < self.left)) }
     {
-        if self.left < 2 {
-            return no_line();
-        }
+        let left = self.left.checked_sub(1)?;
         let known = front(text, self.filled);
         let n = known.len();
         let e = find(known, self.next, b'\n');
-        if e < n {
-            return Line {
-                start: self.next,
-                end: e,
-                next: e + 1,
-                filled: n,
-                left: self.left - 1,
-            };
+        if n <= e {
+            return read_line(text, self.next, n, left);
         }
-        read_line(text, self.next, n, self.left - 1)
+        Some(Line {
+            start: self.next,
+            end: e,
+            next: e + 1,
+            filled: n,
+            left,
+        })
     }
 }
 

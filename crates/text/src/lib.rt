@@ -20,10 +20,7 @@ ghost use Rattle.text.specs.Text.{Tells};
 pub fn front(s: &[u8], n: usize) -> &[u8]
     ensures { result.now ≡ take n s.now }
 {
-    if n < s.len() {
-        return &s[0..n];
-    }
-    s
+    &s[..n.min(s.len())]
 }
 
 // Whether two texts are the same.

@@ -72,12 +72,13 @@ fn numbers(word: &[u8], list: &mut [u64]) -> Option<usize> {
     Some(n)
 }
 
-// The numbers to skip, if the list holds them; and how many they are. `-` is none.
-pub fn skips(word: &[u8], list: &mut [u64]) -> Option<usize> {
+// The numbers to skip, if the list holds them; `-` is none.
+pub fn skips<'a>(word: &[u8], list: &'a mut [u64]) -> Option<&'a [u64]> {
     if matches!(word, [b'-']) {
-        return Some(0);
+        return Some(&[]);
     }
-    numbers(word, list).filter(|n| *n <= list.len())
+    let n = numbers(word, list)?;
+    list.get(..n)
 }
 
 // What a hex digit stands for.
@@ -88,21 +89,16 @@ fn nibble(letter: u8) -> Option<u8>
     Some(digit as u8)
 }
 
-// Pairs of hex digits into the bytes that they stand for.
-fn pairs(word: &[u8], bytes: &mut [u8]) -> Option<usize> {
-    for (byte, pair) in bytes.iter_mut().zip(word.chunks_exact(2)) {
-        *byte = nibble(pair[0])? * 16 + nibble(pair[1])?;
-    }
-    Some(word.len() / 2)
-}
-
-// The bytes that a word stands for, two hex digits a byte and `-` for none, if the buffer holds them; and how many they are.
-pub fn hex(word: &[u8], bytes: &mut [u8]) -> Option<usize> {
+// The bytes that a word stands for, two hex digits a byte and `-` for none, if the buffer holds them.
+pub fn hex<'a>(word: &[u8], bytes: &'a mut [u8]) -> Option<&'a [u8]> {
     if matches!(word, [b'-']) {
-        return Some(0);
+        return Some(&[]);
     }
     if word.is_empty() || word.len() % 2 != 0 || bytes.len() < word.len() / 2 {
         return None;
     }
-    pairs(word, bytes)
+    for (byte, pair) in bytes.iter_mut().zip(word.chunks_exact(2)) {
+        *byte = nibble(pair[0])? * 16 + nibble(pair[1])?;
+    }
+    bytes.get(..word.len() / 2)
 }

@@ -8,10 +8,7 @@ use terms::EVENT_SIZE;
 pub fn number_at(store: &[u64], i: usize) -> u64
     ensures { result ≡ get_or store.now i 0 }
 {
-    if i < store.len() {
-        return store[i];
-    }
-    0
+    store.get(i).copied().unwrap_or(0)
 }
 
 // Writes a number, if there is such a place.
@@ -28,15 +25,9 @@ pub fn numbers_of(store: &[u64], place: u64, count: u64) -> &[u64]
     ensures { result.now ≡ take count (drop place store.now) }
 {
     let size = store.len() as u64;
-    if size < place {
-        return &store[0..0];
-    }
-    let a = place as usize;
-    if size - place < count {
-        return &store[a..];
-    }
-    let e = (place + count) as usize;
-    &store[a..e]
+    let start = place.min(size);
+    let end = start + count.min(size - start);
+    &store[start as usize..end as usize]
 }
 
 // The numbers of the event i.
@@ -44,8 +35,5 @@ pub fn entry(events: &[u64], i: u64) -> &[u64]
     ensures { result.now ≡ entry_of events.now i }
 {
     let size = EVENT_SIZE as u64;
-    if (events.len() as u64) / size < i {
-        return &events[0..0];
-    }
-    numbers_of(events, size * i, size)
+    numbers_of(events, size.saturating_mul(i), size)
 }

@@ -31,10 +31,11 @@ ghost use Rattle.std.specs.Prelude.{◌≤◌};
 
 use judge::put_exchange;
 use scan::{Question, question_on};
-use side::{Side, Stores};
+use side::{Outcome, Stores};
 use text::feed::{Line, zeros};
 use text::page::Page;
 use text::scan::{MOST_SKIPS, is_asking};
+use walk::Walked;
 
 // What holds the longest line, 65,536 bytes, and the longest dump, 1,024 lines of at most 150 bytes and 8,192 operands of at most 21.
 const MOST: usize = 393_216;
@@ -44,9 +45,9 @@ const ROOM: usize = 524_288;
 // The answer to a question.
 fn put_asked(page: &mut Page<'_>, q: Question<'_>) {
     let mut stores = Stores::new();
-    let side = Side::of(q.input, q, &mut stores);
-    page.dump(side.told, side.events, side.operands);
-    if side.is_zero_behind() {
+    let outcome = Outcome::of(q.input, q, &mut stores);
+    page.dump(Walked::from(outcome.told), outcome.events, outcome.operands);
+    if outcome.is_zero_behind() {
         page.bytes(b"stores=zero\n");
     } else {
         page.bytes(b"stores=left\n");
@@ -77,13 +78,13 @@ fn put_line(page: &mut Page<'_>, line: &[u8]) {
 
 // Answers every line of the input.
 fn answer_all(text: &mut [u8], page: &mut Page<'_>) {
-    let mut line = Line::first(text);
-    while 0 < line.left {
+    let mut next = Line::first(text);
+    while let Some(line) = next {
         let a = line.start;
         let e = line.end;
         page.make_room(MOST);
         put_line(page, &text[a..e]);
-        line = line.behind(text);
+        next = line.behind(text);
     }
     page.flush();
 }

@@ -2,9 +2,7 @@
 ghost use Rattle.std.specs.Prelude.{◌≤◌, IfSome};
 ghost use Rattle.trial.specs.declared.scan.TheConstants.{STORE};
 
-use text::front;
 use text::scan::{decimal, hex, skips};
-use text::store::numbers_of;
 
 // The most numbers that a store has.
 pub const STORE: usize = 8_192;
@@ -34,14 +32,10 @@ pub fn question_on<'a>(
     bytes: &'a mut [u8],
 ) -> Option<Question<'a>> {
     let mut words = line.splitn(4, |letter| *letter == b' ');
-    let skipped = skips(words.next()?, list)?;
-    let events = size(words.next()?)?;
-    let operands = size(words.next()?)?;
-    let count = hex(words.next()?, bytes)?;
     Some(Question {
-        skip: numbers_of(list, 0, skipped as u64),
-        events,
-        operands,
-        input: front(bytes, count),
+        skip: skips(words.next()?, list)?,
+        events: size(words.next()?)?,
+        operands: size(words.next()?)?,
+        input: hex(words.next()?, bytes)?,
     })
 }

@@ -1,10 +1,10 @@
-// A walk that was made: its input, what it told, and what it left in its stores; and an event of it.
+// A walk that was made: what it told, and what it left in its stores; one that accepted, with its input; and an event of it.
 use crate::scan::{Question, STORE};
 use bitcode::{LLVM_BITCODE_WRAPPER_MAGIC, blob};
 use std::ops::Range;
-use terms::EVENT_SIZE;
+use terms::{EVENT_SIZE, Refused};
 use text::store::{entry, numbers_of};
-use walk::{ARRAY, BLOB, CHAR6, ENTER, RECORD, SKIP, Walked, walk};
+use walk::{ARRAY, Accepted, BLOB, CHAR6, ENTER, RECORD, SKIP, walk};
 
 // The two stores that a walk fills. Before, they hold a number all over that no walk is to leave behind.
 #[derive(Drop)]
@@ -13,22 +13,21 @@ pub struct Stores {
     operands: [u64; STORE],
 }
 
-impl Stores {
-    pub fn new() -> Self {
-        Stores {
-            events: [u64::MAX; STORE],
-            operands: [u64::MAX; STORE],
-        }
-    }
-}
-
-// A walk, with its input and its stores.
+// A walk that was made: what it told, and what it left in its stores.
 #[derive(Clone, Copy)]
-pub struct Side<'a> {
-    pub input: &'a [u8],
-    pub told: Walked,
+pub struct Outcome<'a> {
+    pub told: Result<Accepted, Refused>,
     pub events: &'a [u64],
     pub operands: &'a [u64],
+}
+
+// A walk that accepted, with its input.
+#[derive(Clone, Copy)]
+pub struct Side<'a> {
+    input: &'a [u8],
+    pub told: Accepted,
+    events: &'a [u64],
+    operands: &'a [u64],
 }
 
 // An event: its eight numbers, and what a record's places point into.
@@ -44,23 +43,51 @@ fn is_zero(store: &[u64]) -> bool {
     store.iter().all(|number| *number == 0)
 }
 
-impl<'a> Side<'a> {
+impl Stores {
+    pub fn new() -> Self {
+        Stores {
+            events: [u64::MAX; STORE],
+            operands: [u64::MAX; STORE],
+        }
+    }
+}
+
+impl<'a> Outcome<'a> {
     // The walk of an input, with the numbers to skip and the sizes of the stores that a question tells.
-    pub fn of(input: &'a [u8], q: Question<'_>, stores: &'a mut Stores) -> Self {
+    pub fn of(input: &[u8], q: Question<'_>, stores: &'a mut Stores) -> Self {
         let (events, operands) = (&mut stores.events, &mut stores.operands);
         let events = &mut events[..q.events];
         let operands = &mut operands[..q.operands];
-        let told = Walked::from(walk(input, q.skip, events, operands));
-        Side {
-            input,
+        let told = walk(input, q.skip, events, operands);
+        Outcome {
             told,
             events,
             operands,
         }
     }
 
-    pub fn is_accepted(self) -> bool {
-        self.told.status == 0
+    // Whether the stores are zero behind what the walk says that they hold, and for a refusal all over.
+    pub fn is_zero_behind(self) -> bool {
+        let (shown, held) = match self.told {
+            Ok(told) => (told.events as usize, told.operands as usize),
+            Err(_) => (0, 0),
+        };
+        let shown = shown.min(self.events.len() / EVENT_SIZE);
+        let held = held.min(self.operands.len());
+        is_zero(&self.events[shown * EVENT_SIZE..]) && is_zero(&self.operands[held..])
+    }
+}
+
+impl<'a> Side<'a> {
+    // The walk of an input as a question tells, if it accepts.
+    pub fn of(input: &'a [u8], q: Question<'_>, stores: &'a mut Stores) -> Result<Self, Refused> {
+        let outcome = Outcome::of(input, q, stores);
+        Ok(Side {
+            input,
+            told: outcome.told?,
+            events: outcome.events,
+            operands: outcome.operands,
+        })
     }
 
     // The event x, and zeros where there is none.
@@ -88,16 +115,6 @@ impl<'a> Side<'a> {
         matches!(event.kind(), ENTER | SKIP)
             && bytes.start < start
             && start.saturating_add(event.numbers[4]) == bytes.end
-    }
-
-    // Whether the stores are zero behind what the walk says that they hold, and for a refusal all over.
-    pub fn is_zero_behind(self) -> bool {
-        if !self.is_accepted() {
-            return is_zero(self.events) && is_zero(self.operands);
-        }
-        let told = (self.told.events as usize).min(self.events.len() / EVENT_SIZE);
-        let held = (self.told.operands as usize).min(self.operands.len());
-        is_zero(&self.events[told * EVENT_SIZE..]) && is_zero(&self.operands[held..])
     }
 }
 

@@ -12,4 +12,5 @@ returns-then-input-gt-MOST c = rw (lt-ltb 65536 _ c.if-input-gt-MOST.true) (page
 
 pub returns : goal.returns
 unfolding dumped shown when◌then◌else◌
-returns c = rw (le-ltb 65536 _ c.if-input-gt-MOST.false) (page_puts c.new-page.ensures (rw (c.from-w.ensures, c.walk.ensures.answer, c.walk.ensures.events, c.walk.ensures.operands) at c.dump.ensures) (search rules))
+returns c =
+    rw (le-ltb 65536 _ c.if-input-gt-MOST.false) (page_puts c.new-page.ensures (rw (c.from-w.ensures, c.walk.ensures.answer, c.walk.ensures.events, c.walk.ensures.operands) at c.dump.ensures) (search rules))

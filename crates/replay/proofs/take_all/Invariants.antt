@@ -1,16 +1,12 @@
--- `replay::take_all` is safe and ends. The line lies in the text, and all that is lent keeps its length. The measure is how many lines may come.
-use Prim.Native.Nat.{◌≤◌}
-use mathlib.Core.Path.{◌≡◌}
-use lib.ListN.{length}
+-- `replay::take_all` is safe and ends. The line lies in the text, which keeps its length. The measure is how many lines may come.
+use Rattle.std.proofs.Common.{◌≡◌, ◌≤◌, length}
+use Rattle.std.specs.Prelude.{IfSome}
+use Rattle.text.proofs.Left.{lines_from}
 use Rattle.replay.proofs.take_all.Given as goal
 
-abbrev pub invariant-loop-line : goal.invariant-loop-line
-invariant-loop-line l = (l.line.start ≤ l.line.end)
-    × (l.line.end ≤ length l.text)
+abbrev pub invariant-loop-next : goal.invariant-loop-next
+invariant-loop-next l = IfSome l.next (λ line. (line.start ≤ line.end) × (line.end ≤ length l.text))
     × (length l.text ≡ length l.initial.text)
-    × (length l.ours ≡ length l.initial.ours)
-    × (length l.events ≡ length l.initial.events)
-    × (length l.operands ≡ length l.initial.operands)
 
-abbrev pub decreases-loop-line : goal.decreases-loop-line
-decreases-loop-line l = l.line.left
+abbrev pub decreases-loop-next : goal.decreases-loop-next
+decreases-loop-next l = lines_from l.next

