@@ -4,14 +4,13 @@ use mathlib.Core.Path.{◌≡◌, refl, sym, ap, ap₂, ◌∙◌}
 use mathlib.Core.Bool.{Bool, true, false}
 use Rattle.std.specs.Prelude.{◌||◌, eqb}
 use Rattle.std.specs.List.{list_any}
-use mathlib.Core.List.{List, [], ◌∷◌, ◌++◌, append_assoc, append-nil}
-use Prim.Native.Nat.{ℕ, ◌+◌, ◌-◌, ◌*◌, ◌/◌, ◌≤◌, ◌<◌}
-use native.Mathlib.Numerals.{add-one}
+use mathlib.Core.List.{List, [], ◌∷◌, ◌++◌, append-nil}
+use Prim.Native.Nat.{ℕ, ◌-◌, ◌*◌, ◌/◌, ◌≤◌, ◌<◌}
 use native.Mathlib.Nat.{sub-zero}
 use native.Mathlib.Omega.{arith}
-use lib.ListN.{length, take, drop, set, get_or, replicate, length-replicate, replicate-append-replicate, drop_of_length-le}
-use lib.Seq.{length-take-le, take-suc-set, drop-cons}
-use borrow.Author.Tests.{lt-ltb, le-ltb, eq-eqb, ne_eqb}
+use lib.ListN.{length, take, replicate, length-replicate}
+use lib.Seq.{length-take-le}
+use borrow.Author.Tests.{lt-ltb, le-ltb}
 use Rattle.terms.specs.Limits.{max_input, event_size}
 use Rattle.terms.specs.Refusals.{No, no, Refusal, refusal, at_bit, no_of, refusal_of, number_of, first_of, second_of}
 use Rattle.terms.specs.declared.Reason.{Reason}
@@ -42,27 +41,6 @@ listed_as b (x ∷ xs) = go (eqb x b) (listed_as b xs)
     go : (t : Bool) → list_any (λ y. eqb y b) xs ≡ listed b xs → (t || list_any (λ y. eqb y b) xs) ≡ (when t then true else listed b xs)
     go true i = refl
     go false i = i
-
-module _ (b : ℕ) (xs : List ℕ) (i : ℕ) where
-  pub listed_none : length xs ≤ i → listed b (drop i xs) ≡ false
-  unfolding listed
-  listed_none h = ap (listed b) (drop_of_length-le xs h)
-
-  pub listed_here : i < length xs → get_or xs i 0 ≡ b → listed b (drop i xs) ≡ true
-  unfolding listed when◌then◌else◌
-  listed_here h e = ap (listed b) (drop-cons xs i 0 h) ∙ rw (eq-eqb (get_or xs i 0) b e)
-
-  pub listed_next : i < length xs → (get_or xs i 0 ≡ b → ⊥) → listed b (drop i xs) ≡ listed b (drop (i + 1) xs)
-  unfolding listed when◌then◌else◌
-  listed_next h n = ap (listed b) (drop-cons xs i 0 h) ∙ rw (ne_eqb (get_or xs i 0) b n) (ap (λ j. listed b (drop j xs)) (sym (add-one i)))
-
--- ---- zeros: one more behind what a store held up to f
-pub clear_more : (l l₀ : List ℕ) (f i : ℕ) → f ≤ i → i < length l → take i l ≡ take f l₀ ++ replicate (i - f) 0
-    → take (i + 1) (set l i 0) ≡ take f l₀ ++ replicate (i + 1 - f) 0
-clear_more l l₀ f i h k q =
-    let e : i - f + 1 ≡ i + 1 - f = omega arith in
-    ap (λ n. take n (set l i 0)) (add-one i) ∙ take-suc-set l i 0 k ∙ ap (λ z. z ++ 0 ∷ []) q ∙ append_assoc (take f l₀) (replicate (i - f) 0) (0 ∷ [])
-    ∙ ap (λ z. take f l₀ ++ z) (replicate-append-replicate (i - f) 1 0 ∙ ap (λ n. replicate n 0) e)
 
 -- ---- the top level is a block's body, from the first bit, with no abbreviation
 abbrev pub outermost : ℕ → Frame

@@ -1,12 +1,13 @@
 -- The front of a store: behind a store of one number or of several, and behind a part that was lent. Assumes nothing.
-use mathlib.Core.Path.{◌≡◌, sym, ap, ◌∙◌}
-use mathlib.Core.List.{List, [], ◌∷◌, ◌++◌}
-use Prim.Native.Nat.{ℕ, ◌+◌, ◌≤◌, ◌<◌}
+use mathlib.Core.Path.{◌≡◌, sym, ap, ap₂, ◌∙◌}
+use mathlib.Core.List.{List, [], ◌∷◌, ◌++◌, append-nil}
+use Prim.Native.Nat.{ℕ, ◌+◌, ◌-◌, ◌≤◌, ◌<◌}
 use native.Mathlib.Omega.{arith}
 use native.Mathlib.Numerals.{add-one}
-use lib.ListN.{length, take, drop, set, length-append}
+use lib.ListN.{length, take, drop, set, replicate, length-append, drop_of_length-le}
+use Rattle.std.proofs.lemmas.List.{length-drop}
 use lib.Seq.{take-suc-set, length-take-le, take-append-add, take-append-le, sets, sets-eq, take_at}
-use borrow.Rule.Slice.PartMut.{put_mid, post_of}
+use borrow.Rule.Slice.PartMut.{put_mid, mid_of, mid_len, post_of}
 
 -- one number behind the front
 pub take_store : (l : List ℕ) (i a : ℕ) → i < length l → take (i + 1) (set l i a) ≡ take i l ++ a ∷ []
@@ -25,3 +26,11 @@ take_put_front a k n xs ys h g =
     ap (λ i. take (i + n) (put_mid a k xs ys)) (sym (length-take-le a xs h))
     ∙ take-append-add (take a xs) (ys ++ post_of a k xs) n
     ∙ ap (λ z. take a xs ++ z) (take-append-le n ys (post_of a k xs) g)
+
+-- a store whose part from a place on has been filled with zeros
+pub put_zeros : (a : ℕ) (xs : List ℕ) {ys : List ℕ} → a ≤ length xs → ys ≡ replicate (length (mid_of a (length xs - a) xs)) 0
+    → put_mid a (length xs - a) xs ys ≡ take a xs ++ replicate (length xs - a) 0
+put_zeros a xs {ys} h z =
+    let k = length xs - a in
+    ap₂ (λ l e. take a xs ++ (l ++ e)) (z ∙ ap (λ n. replicate n 0) (mid_len a (length xs) xs (omega arith))) (drop_of_length-le (drop a xs) (omega (arith, length-drop a xs)))
+    ∙ ap (λ l. take a xs ++ l) (append-nil (replicate k 0))
