@@ -2,7 +2,8 @@
 use Prim.Native.Nat.{◌-◌}
 use lib.ListN.{length}
 use Rattle.walk.specs.Promises.{plain}
-use Rattle.walk.proofs.Items.{stopped_in, told_off, told_record, plain_is}
+use Rattle.walk.proofs.Items.{told_off, told_record, plain_is}
+use Rattle.walk.proofs.Parts.{stopped_in}
 use Rattle.walk.proofs.Block.record_plain.Goals as goal
 
 pub returns-in_err-r : goal.returns-in_err-r
