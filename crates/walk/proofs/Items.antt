@@ -384,7 +384,7 @@ module _ (B : Block) (m : Marks) (t : Tables) (ev ops : List ℕ) (stands : Stan
         (used_some (context B.frame) St m.at B.stream.now B.frame.end d.at n (look_up_some B.own.now B.frame.base m.local n t (no 8 n B.frame.number) B.stream.now B.frame.end d.at stands.0.local stands.0.base z))
 
   -- ---- a record
-  module _ (d : Cursor) (mm : Reader No Record) {x : Answer Refusal Opening} (is : x ≡ recording (context B.frame) St m.at B.stream.now B.frame.end d.at mm B.stream.now B.frame.end d.at) (behind : Behind B.frame d) where
+  module _ (d : Cursor) (mm : Reader No Record) {x : Answer Refusal Opening} (is : x ≡ recording (context B.frame) St m.at B.stream.now B.frame.end d.at mm B.stream.now B.frame.end d.at) (behind : Behind B d) where
     pub told_off : {w : No} → Off mm B.stream.now d.end d.at w → completed B St x ≡ refused (at_bit m.at w)
     told_off o = let o₂ = rw behind at o in completed_off B St (is ∙ recording_off (context B.frame) St m.at B.stream.now B.frame.end d.at mm o₂.why)
 

@@ -16,7 +16,7 @@ returns-in_err-row c =
     let b = a.self.now in
     let p = c.requires in
     let w = row_lost b.frame.number a.n (row_at b.own.now b.frame.base a.m.local a.n) (sym c.in_err-row.was ∙ c.look_up.ensures) in
-    stopped_in b a.m _ _ _ _ _ _ _ _ _ c.from_residual.ensures.1
+    λ stands. stopped_in b a.m _ _ _ _ _ _ _ _ _ c.from_residual.ensures.1
     (use_lost b a.m (held a.tables.now) a.events.now a.operands.now p.stands.0 a.d a.n p.stands.2 w.0
     ∙ ap (λ why. refused (at_bit a.m.at (no_of why))) (sym w.1))
 
@@ -60,7 +60,7 @@ returns-in_err-r c =
     let p = c.requires in
     let w = row_used b a.m a.events.now a.operands.now a.n p.stands.0 (sym c.in_ok-row.was ∙ c.look_up.ensures) in
     let t = held a.tables.now in
-    stopped_in b a.m _ _ _ _ _ _ _ _ _ c.from_residual-in_err-r.ensures.1
+    λ stands. stopped_in b a.m _ _ _ _ _ _ _ _ _ c.from_residual-in_err-r.ensures.1
     (told_off b a.m t a.events.now a.operands.now p.stands.0 a.d _
     (use_found b a.m t a.events.now a.operands.now p.stands.0 a.d a.n p.stands.2 w.0) p.stands.1 c.in_err-r.ensures)
 
@@ -75,6 +75,6 @@ returns c =
     let p = c.requires in
     let w = row_used b a.m a.events.now a.operands.now a.n p.stands.0 (sym c.in_ok-row.was ∙ c.look_up.ensures) in
     let t = held a.tables.now in
-    told_record b a.m t a.events.now a.operands.now p.stands.0 a.d _
+    λ stands. told_record b a.m t a.events.now a.operands.now p.stands.0 a.d _
     (use_found b a.m t a.events.now a.operands.now p.stands.0 a.d a.n p.stands.2 w.0) p.stands.1
     _ _ _ _ c.in_ok-r.ensures c.tell_record.auto.events c.read_abbreviated.auto.operands c.tell_record.result c.tell_record.ensures

@@ -138,7 +138,7 @@ returns-in-3 c =
     ∙ ap (λ i. numbered_of b a.m t (length a.ev.now) (length a.ops.now) i c.in_ok-n.d) c.in-3.is in
     record {
       kept = kept_refl _ _ _;
-      does = rw c.placed-in-3.ensures (does_as b a.m _ _ _ _ _ _ _ _ o (c.record_plain.ensures t));
+      does = rw c.placed-in-3.ensures (does_as b a.m _ _ _ _ _ _ _ _ o (c.record_plain.ensures t p.stands));
     }
 
 pub returns-in_default : goal.returns-in_default
@@ -151,5 +151,5 @@ returns-in_default c =
     let o = (next_is b a.m t (length a.ev.now) (length a.ops.now) c.read_number.result i c.read_number.ensures (sym c.placed-2.ensures ∙ c.in_ok-n.was)).0 in
     record {
       kept = kept_refl _ _ _;
-      does = rw c.placed-in_default.ensures (does_as b a.m _ _ _ _ _ _ _ _ o c.record_abbreviated.ensures);
+      does = rw c.placed-in_default.ensures (does_as b a.m _ _ _ _ _ _ _ _ o (c.record_abbreviated.ensures p.stands));
     }
