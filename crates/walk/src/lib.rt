@@ -477,8 +477,8 @@ impl<'a> Block<'a> {
 
     // Number 0: align, and leave.
     fn leave(&self, m: Marks, d: Cursor, events: &mut [u64]) -> Result<Step, Reason>
-        requires { (m.events ≤ length events.old) × Behind self.now.frame d }
-        ensures { (ops : List ℕ) (t : Tables) → Stands self.now m events.old ops → DoesNumber self.now m 0 d t t events.old events.new ops ops (placed_at m.at result) }
+        requires { (m.events ≤ length events.old) × Behind self.now d }
+        ensures { (ops : List ℕ) (t : Tables) → DoesNumber self.now m 0 d t t events.old events.new ops ops (placed_at m.at result) }
     {
         let g = d.align32(self.stream)?;
         let behind = Marks {
@@ -510,7 +510,7 @@ impl<'a> Block<'a> {
         requires in_range { (m.shared ≤ max_shared) × (m.local ≤ max_local) × (g.at + 8 * head.length ≤ 18446744073709551615) }
         requires zero { head.block ≡ 0 }
         ensures kept { Kept m.shared m.local (held tables.old) (held tables.new) }
-        ensures does { (ev ops : List ℕ) → Stands self.now m ev ops → DoesHead self.now m head g (held tables.old) (held tables.new) ev ev ops ops result }
+        ensures does { (ev ops : List ℕ) → DoesHead self.now m head g (held tables.old) (held tables.new) ev ev ops ops result }
     {
         let c = Cursor {
             at: g.at,
@@ -542,7 +542,7 @@ impl<'a> Block<'a> {
         events: &mut [u64],
     ) -> Result<Step, Reason>
         requires { (m.events ≤ length events.old) × Entering self.now head × (g.at + 8 * head.length ≤ limit self.now.stream.now self.now.frame.end) }
-        ensures { (ops : List ℕ) (t : Tables) → Stands self.now m events.old ops → DoesHead self.now m head g t t events.old events.new ops ops (placed_at m.at result) }
+        ensures { (ops : List ℕ) (t : Tables) → DoesHead self.now m head g t t events.old events.new ops ops (placed_at m.at result) }
     {
         if self.frame.left == 0 {
             return Err(Reason::TooDeep(head.block));
@@ -575,9 +575,9 @@ impl<'a> Block<'a> {
         events: &mut [u64],
     ) -> Result<Step, Refused>
         requires whole { Whole (held tables.old) }
-        requires in_range { (m.events ≤ length events.old) × (m.shared ≤ max_shared) × (m.local ≤ max_local) × Behind self.now.frame d }
+        requires in_range { (m.events ≤ length events.old) × (m.shared ≤ max_shared) × (m.local ≤ max_local) × Behind self.now d }
         ensures kept { Kept m.shared m.local (held tables.old) (held tables.new) }
-        ensures does { (ops : List ℕ) → Stands self.now m events.old ops → DoesNumber self.now m 1 d (held tables.old) (held tables.new) events.old events.new ops ops result }
+        ensures does { (ops : List ℕ) → DoesNumber self.now m 1 d (held tables.old) (held tables.new) events.old events.new ops ops result }
     {
         let (head, g) = m.placed(read_head(d, self.stream))?;
         if head.block == 0 {
@@ -592,9 +592,9 @@ impl<'a> Block<'a> {
     // Number 2: a local definition. It is read into the next local row; its room is tested behind it.
     fn define_local(&self, m: Marks, d: Cursor, tables: &mut Abbreviations) -> Result<Step, Reason>
         requires whole { Whole (held tables.old) }
-        requires in_range { (m.shared ≤ max_shared) × (m.local ≤ max_local) × Behind self.now.frame d }
+        requires in_range { (m.shared ≤ max_shared) × (m.local ≤ max_local) × Behind self.now d }
         ensures kept { Kept m.shared m.local (held tables.old) (held tables.new) }
-        ensures does { (ev ops : List ℕ) → Stands self.now m ev ops → DoesNumber self.now m 2 d (held tables.old) (held tables.new) ev ev ops ops (placed_at m.at result) }
+        ensures does { (ev ops : List ℕ) → DoesNumber self.now m 2 d (held tables.old) (held tables.new) ev ev ops ops (placed_at m.at result) }
     {
         let row = LOCAL + m.local;
         let (shape, g) = abbrev::define_abbrev(
@@ -654,7 +654,7 @@ impl<'a> Block<'a> {
         events: &mut [u64],
         operands: &mut [u64],
     ) -> Result<Step, Reason>
-        requires { Stands self.now m events.old operands.old × Behind self.now.frame d }
+        requires { Stands self.now m events.old operands.old × Behind self.now d }
         ensures { (t : Tables) → DoesNumber self.now m 3 d t t events.old events.new operands.old operands.new (placed_at m.at result) }
     {
         let (r, g) = read_unabbreviated(d, self.stream, operands, m.operands)?;
@@ -672,7 +672,7 @@ impl<'a> Block<'a> {
         operands: &mut [u64],
     ) -> Result<Step, Reason>
         requires whole { Whole (held tables.now) }
-        requires stands { Stands self.now m events.old operands.old × Behind self.now.frame d × (4 ≤ n) }
+        requires stands { Stands self.now m events.old operands.old × Behind self.now d × (4 ≤ n) }
         ensures { DoesNumber self.now m n d (held tables.now) (held tables.now) events.old events.new operands.old operands.new (placed_at m.at result) }
     {
         let block = BlockNumber(self.frame.number);
@@ -724,7 +724,7 @@ impl<'a> Block<'a> {
 // A block of the skip list: a skip event, and its body stays unread.
 fn pass_over(m: Marks, head: BlockHead, g: Cursor, events: &mut [u64]) -> Result<Step, Reason>
     requires { (m.events ≤ length events.old) × (g.at + 8 * head.length ≤ 18446744073709551615) }
-    ensures { (b : Block) (ops : List ℕ) (t : Tables) → Passing b head → Stands b m events.old ops → DoesHead b m head g t t events.old events.new ops ops (placed_at m.at result) }
+    ensures { (b : Block) (ops : List ℕ) (t : Tables) → Passing b head → DoesHead b m head g t t events.old events.new ops ops (placed_at m.at result) }
 {
     let e = [SKIP, head.block, head.width, g.at / 8, head.length, 0, 0, 0];
     put_event(events, m.events, e)?;

@@ -2,7 +2,8 @@
 use native.Mathlib.Omega.{arith}
 use Rattle.abbrev.proofs.Held.{kept_define, kept_shape}
 use Rattle.abbrev.proofs.Infos.{defined_in, undefined_in}
-use Rattle.walk.proofs.Items.{stopped_in, completed_off, define_off, define_full, define_done, define_went}
+use Rattle.walk.proofs.Items.{completed_off, define_off, define_full, define_done, define_went}
+use Rattle.walk.proofs.Parts.{stopped_in}
 use Rattle.walk.proofs.Block.define_local.Goals as goal
 
 pub returns-in_err-shape : goal.returns-in_err-shape

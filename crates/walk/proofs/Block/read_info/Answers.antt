@@ -1,7 +1,8 @@
 -- `walk::Block::read_info` meets its contract: BLOCKINFO adds to the shared rows and gives no event. Assumes nothing.
 use native.Mathlib.Omega.{arith}
 use Rattle.abbrev.proofs.Held.{kept_less}
-use Rattle.walk.proofs.Items.{stopped, info_refused, info_added}
+use Rattle.walk.proofs.Items.{info_refused, info_added}
+use Rattle.walk.proofs.Parts.{stopped}
 use Rattle.walk.proofs.Block.read_info.Goals as goal
 
 pub returns-in_err-shared : goal.returns-in_err-shared
