@@ -8,7 +8,6 @@ use lib.ListN.{replicate}
 use Rattle.bits.proofs.Laws.{limit_le}
 use Rattle.bits.proofs.Steps.{handed}
 use Rattle.walk.specs.Promises.{Is}
-use Rattle.abbrev.proofs.Held.{whole_kept}
 use Rattle.walk.proofs.Visits.{going_first, going_onward, onward_less, going_behind, behind_less, is_over, is_stopped, is_refused, kept_item, kept_nested, inner_sits, picked_part, picked_fits}
 use Rattle.walk.proofs.+visit_block.Goals as goal
 
@@ -21,11 +20,11 @@ pub loop-step-init : goal.loop-step-init
 loop-step-init t c =
     let p = c.requires in
     let r = c.shared_rows-many.ensures in
-    going_first _ _ _ _ _ p.whole p.sits.0 p.sits.1 (picked_part _ _ _ (replicate 32 0) refl r.many r.stored)
+    going_first _ _ _ _ _ (record { kinds = omega arith; widths = omega arith; shapes = omega arith; owners = omega arith }) p.sits.0 p.sits.1 (picked_part _ _ _ (replicate 32 0) refl r.many r.stored)
 
 pub try_next-requires : goal.try_next-requires
 try_next-requires t c =
-    let g = c.loop-step.invariant in record { whole = g.whole; stands = (g.sits, g.below) }
+    let g = c.loop-step.invariant in record { stands = (g.sits, g.below) }
 
 pub loop-step-smaller-in-Go : goal.loop-step-smaller-in-Go
 loop-step-smaller-in-Go t c =
@@ -60,8 +59,7 @@ visit_block-requires t c =
     let k = i.ensures.kept in
     let p = i.auto.ev in
     let q = i.auto.ops in
-    let w = c.requires in
-    rw c.inside-inner.ensures (omega (arith, w.whole, d.levels), (whole_kept g.whole k, (inner_sits g k p q d, refl)))
+    rw c.inside-inner.ensures (omega (arith, d.levels), (inner_sits g k p q d, refl))
 
 pub overflow_mul-st : goal.overflow_mul-st
 overflow_mul-st t c =

@@ -32,7 +32,7 @@ read_info-requires c =
     let p = c.requires in
     let w = rw (placed_ok _ _ (sym c.placed.ensures ∙ c.in_ok-head.was)) at c.read_head.ensures in
     let l = rw p.in_range.3 at w.1 in
-    record { whole = p.whole; in_range = (p.in_range.1, p.in_range.2, omega (arith, l, limit_le b.stream.now b.frame.end)); zero = c.if-head-eq0.true }
+    record { in_range = (p.in_range.1, p.in_range.2, omega (arith, l, limit_le b.stream.now b.frame.end)); zero = c.if-head-eq0.true }
 
 pub returns-then-head-eq0 : goal.returns-then-head-eq0
 returns-then-head-eq0 c =

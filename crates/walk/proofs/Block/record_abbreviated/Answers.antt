@@ -34,7 +34,7 @@ bounds-tables-row c =
     let b = a.self.now in
     let p = c.requires in
     let w = row_used b a.m a.events.now a.operands.now a.n p.stands.0 (sym c.in_ok-row.was ∙ c.look_up.ensures) in
-    omega (arith, w.1, p.whole.shapes)
+    omega (arith, w.1)
 
 pub overflow_mul-row : goal.overflow_mul-row
 overflow_mul-row c =
@@ -50,7 +50,7 @@ read_abbreviated-requires c =
     let b = a.self.now in
     let p = c.requires in
     let w = row_used b a.m a.events.now a.operands.now a.n p.stands.0 (sym c.in_ok-row.was ∙ c.look_up.ensures) in
-    (p.whole, omega (arith, w.1), p.stands.0.0.operands)
+    (omega (arith, w.1), p.stands.0.0.operands)
 
 pub returns-in_err-r : goal.returns-in_err-r
 unfolding row_of

@@ -59,7 +59,7 @@ enter_sub_block-requires c =
     let b = a.self.now in
     let p = c.requires in
     let x = rw (placed_ok _ _ (sym c.placed-2.ensures ∙ c.in_ok-n.was)) at c.read_number.ensures in
-    record { whole = p.whole; in_range = (p.stands.0.events, p.stands.0.shared, p.stands.0.local, x.ends) }
+    record { in_range = (p.stands.0.events, p.stands.0.shared, p.stands.0.local, x.ends) }
 
 pub define_local-requires : goal.define_local-requires
 define_local-requires c =
@@ -67,7 +67,7 @@ define_local-requires c =
     let b = a.self.now in
     let p = c.requires in
     let x = rw (placed_ok _ _ (sym c.placed-2.ensures ∙ c.in_ok-n.was)) at c.read_number.ensures in
-    record { whole = p.whole; in_range = (p.stands.0.shared, p.stands.0.local, x.ends) }
+    record { in_range = (p.stands.0.shared, p.stands.0.local, x.ends) }
 
 pub record_plain-requires : goal.record_plain-requires
 record_plain-requires c =
@@ -83,7 +83,7 @@ record_abbreviated-requires c =
     let b = a.self.now in
     let p = c.requires in
     let x = rw (placed_ok _ _ (sym c.placed-2.ensures ∙ c.in_ok-n.was)) at c.read_number.ensures in
-    record { whole = p.whole; stands = (p.stands, x.ends, omega arith) }
+    record { stands = (p.stands, x.ends, omega arith) }
 
 pub returns-in-0 : goal.returns-in-0
 returns-in-0 c =
