@@ -4,14 +4,14 @@ use mathlib.Core.Path.{◌≡◌, refl, sym, subst}
 use mathlib.Core.Bool.{false}
 use mathlib.Core.List.{List}
 use mathlib.Core.Option.{some}
-use Prim.Native.Nat.{ℕ, ◌<◌}
+use Prim.Native.Nat.{ℕ, ◌+◌, ◌*◌, ◌/◌, ◌≤◌, ◌<◌}
 use native.Mathlib.Omega.{arith}
 use lib.ListN.{length}
 use borrow.Author.Tests.{leb-false}
 use Rattle.terms.specs.Refusals.{Refusal, at_bit, no_of, refusal_of}
 use Rattle.terms.specs.declared.Reason.{Reason}
 use Rattle.terms.specs.declared.Refused.{Refused}
-use Rattle.bits.specs.Reader.{Answer, refused}
+use Rattle.bits.specs.Reader.{Answer, got, refused}
 use Rattle.bits.specs.Bits.{limit, ends_at}
 use Rattle.bits.specs.Told.{Gives, of_read}
 use Rattle.bits.specs.declared.Cursor.{Cursor}
@@ -19,10 +19,12 @@ use Rattle.bits.proofs.Steps.{handed}
 use Rattle.abbrev.specs.Abbrev.{number_of}
 use Rattle.abbrev.specs.Tables.{Tables, row_at, of_row, row_count}
 use Rattle.abbrev.proofs.Held.{row_found, row_at_in}
+use Rattle.walk.specs.Piece.{head}
 use Rattle.walk.specs.Item.{Opening}
-use Rattle.walk.specs.Promises.{placed_at, context, state_of, Stands, completed, opening_of, numbered_of, Does}
+use Rattle.walk.specs.Promises.{placed_at, context, state_of, Stands, completed, opening_of, numbered_of, Does, Behind, head_fits, Heads}
 use Rattle.walk.specs.declared.Marks.{Marks}
 use Rattle.walk.specs.declared.Block.{Block}
+use Rattle.walk.specs.declared.BlockHead.{BlockHead}
 use Rattle.walk.specs.declared.Step.{Step}
 use Rattle.walk.proofs.Items.{open_number}
 
@@ -58,6 +60,15 @@ unfolding ends_at
 next_is B m t ne nops r under x z =
     let y = rw (placed_ok m.at r z) at x in
     (open_number (context B.frame) (state_of B m t ne nops) B.stream.now B.frame.end m.at (leb-false (limit B.stream.now B.frame.end) m.at under) y.gives, y.ends)
+
+-- a block's head has been read: h, and g is behind it
+pub head_next : (B : Block) (m : Marks) (d : Cursor) (r : Result (BlockHead × Cursor) Reason) {h : BlockHead} {g : Cursor} → Behind B d → Heads d B.stream.now head_fits r
+    → placed_at m.at r ≡ Ok (h, g)
+    → (head_fits B.stream.now B.frame.end d.at ≡ got (head h.block h.width (g.at / 8) h.length) g.at) × (g.at + 8 * h.length ≤ limit B.stream.now B.frame.end)
+head_next B m d r e x z =
+    let w = rw (placed_ok m.at r z) at x in
+    let o = rw e at w.0 in
+    (o.gives, rw e at w.1)
 
 -- the row that a number has been looked up as
 pub row_used : (B : Block) (m : Marks) (ev ops : List ℕ) (n : ℕ) {row : ℕ} → Stands B m ev ops
