@@ -1,5 +1,5 @@
 -- One law for each case of an item: what the definition answers where the code stands. Assumes nothing.
-use Rattle.std.specs.Prelude.{Result, Ok, Err, IsErrAnd}
+use Rattle.std.specs.Prelude.{Result, Ok, Err}
 use mathlib.Core.Path.{◌≡◌, refl, sym, ap, subst, ◌∙◌}
 use mathlib.Core.Bool.{true, false}
 use mathlib.Core.List.{List, [], ◌∷◌, ◌++◌, append-nil}
@@ -9,14 +9,12 @@ use native.Mathlib.Omega.{arith}
 use lib.ListN.{length, take, set}
 use borrow.Author.Tests.{lt-ltb, le-ltb, le-leb, lt-leb, ne_eqb}
 use Rattle.terms.specs.Limits.{event_size}
-use Rattle.terms.specs.Refusals.{No, no, Refusal, refusal, at_bit, no_of, refusal_of}
+use Rattle.terms.specs.Refusals.{No, no, Refusal, refusal, at_bit}
 use Rattle.terms.specs.declared.Reason.{Reason}
-use Rattle.terms.specs.declared.Refused.{Refused}
 use Rattle.bits.specs.Reader.{Reader, Answer, got, refused, onward, ◌>>=◌, give, stop, require, when◌then◌else◌, here, turns, at_place, placed}
 use Rattle.bits.specs.Bits.{limit, align, ends_at}
 use Rattle.bits.specs.Told.{Off}
 use Rattle.bits.specs.declared.Cursor.{Cursor}
-use Rattle.bits.proofs.Steps.{handed}
 use Rattle.abbrev.specs.Abbrev.{Abbrev, define, number_of, look_up}
 use Rattle.abbrev.specs.BlockInfo.{Shared, info}
 use Rattle.abbrev.specs.Tables.{row_size, first_local, local_rows, Tables, tables, abbrev_of, row_of, shareds, block_rows, Outside, Kept, Whole, info_all, info_block, Adds, row_at}
@@ -33,16 +31,6 @@ use Rattle.walk.specs.declared.RecordRead.{RecordRead}
 use Rattle.walk.specs.declared.Step.{Step}
 use Rattle.walk.specs.declared.Step.TheVariants as S
 use Rattle.walk.proofs.Visits.{room_lengths}
-
--- ---- a part's answer, had back from the one that has the item's place
-pub placed_ok : {A : Type 0} (at : ℕ) (r : Result A Reason) {a : A} → placed_at at r ≡ Ok a → r ≡ Ok a
-placed_ok at (Ok a) i = cc
-placed_ok at (Err why) i = absurd (let z : ◌≡◌ {A = ℕ} 0 1 = cc in omega arith)
-
-pub placed_err : {A : Type 0} (at : ℕ) (r : Result A Reason) {x : Refused} → placed_at at r ≡ Err x
-    → (why : Reason) × (r ≡ Err why) × (record { reason = why; place = at } ≡ x)
-placed_err at (Ok a) i = absurd (let z : ◌≡◌ {A = ℕ} 0 1 = cc in omega arith)
-placed_err at (Err why) i = (why, refl, (cc))
 
 -- ---- a whole item, by its opening
 module _ (B : Block) (st : State) where
@@ -396,7 +384,7 @@ module _ (B : Block) (m : Marks) (t : Tables) (ev ops : List ℕ) (stands : Stan
         (used_some (context B.frame) St m.at B.stream.now B.frame.end d.at n (look_up_some B.own.now B.frame.base m.local n t (no 8 n B.frame.number) B.stream.now B.frame.end d.at stands.0.local stands.0.base z))
 
   -- ---- a record
-  module _ (d : Cursor) (mm : Reader No Record) {x : Answer Refusal Opening} (is : x ≡ recording (context B.frame) St m.at B.stream.now B.frame.end d.at mm B.stream.now B.frame.end d.at) (behind : Behind B.frame d) where
+  module _ (d : Cursor) (mm : Reader No Record) {x : Answer Refusal Opening} (is : x ≡ recording (context B.frame) St m.at B.stream.now B.frame.end d.at mm B.stream.now B.frame.end d.at) (behind : Behind B d) where
     pub told_off : {w : No} → Off mm B.stream.now d.end d.at w → completed B St x ≡ refused (at_bit m.at w)
     told_off o = let o₂ = rw behind at o in completed_off B St (is ∙ recording_off (context B.frame) St m.at B.stream.now B.frame.end d.at mm o₂.why)
 
@@ -446,17 +434,3 @@ module _ (B : Block) (m : Marks) (t : Tables) (ev ops : List ℕ) (stands : Stan
       told_record same (Err why) (i, h) =
           let y = rw behind at q.gives in
           rw i (completed_off B St (is ∙ recording_full (context B.frame) St m.at B.stream.now B.frame.end d.at mm y.gives (omega arith)))
-
--- a refusal that is handed on: of the whole item, or of a part of it, which gets the item's place
-module _ (B : Block) (m : Marks) (t t' : Tables) (ev ev' ops ops' : List ℕ) (x : Answer Refusal Opening) where
-  pub stopped : (r : Result Step Refused) (e : Refused) → IsErrAnd r (λ y. y ≡ e)
-      → completed B (state_of B m t (length ev) (length ops)) x ≡ refused (refusal_of e) → Does B m t t' ev ev' ops ops' x r
-  stopped r e h z = handed (Does B m t t' ev ev' ops ops' x) r h z
-
-  pub stopped_in : (r : Result Step Reason) (e : Reason) → IsErrAnd r (λ y. y ≡ e)
-      → completed B (state_of B m t (length ev) (length ops)) x ≡ refused (at_bit m.at (no_of e)) → Does B m t t' ev ev' ops ops' x (placed_at m.at r)
-  stopped_in r e h z = handed (λ y. Does B m t t' ev ev' ops ops' x (placed_at m.at y)) r h z
-
-  -- the same step, of an opening that answers the same
-  pub does_as : (r : Result Step Refused) {y : Answer Refusal Opening} → y ≡ x → Does B m t t' ev ev' ops ops' x r → Does B m t t' ev ev' ops ops' y r
-  does_as r e h = subst (λ z. Does B m t t' ev ev' ops ops' z r) (sym e) h

@@ -11,6 +11,7 @@ pub mod Runs
 pub mod Records
 pub mod Visits
 pub mod Items
+pub mod Parts
 pub mod Outer
 pub mod Once
 pub mod Weights

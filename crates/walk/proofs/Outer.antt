@@ -8,7 +8,7 @@ use mathlib.Core.List.{List, [], ◌∷◌, ◌++◌, append-nil}
 use Prim.Native.Nat.{ℕ, ◌-◌, ◌*◌, ◌/◌, ◌≤◌, ◌<◌}
 use native.Mathlib.Nat.{sub-zero}
 use native.Mathlib.Omega.{arith}
-use lib.ListN.{length, take, replicate, length-replicate}
+use lib.ListN.{length, take, replicate}
 use lib.Seq.{length-take-le}
 use borrow.Author.Tests.{lt-ltb, le-ltb}
 use Rattle.terms.specs.Limits.{max_input, event_size}
@@ -19,8 +19,7 @@ use Rattle.bits.specs.Reader.{Answer, refused, when◌then◌else◌, turns}
 use Rattle.bitcode.specs.declared.Signature.{Signature}
 use Rattle.bitcode.specs.Header.{Opened, unsigned, opened, signature, parsed, stream}
 use Rattle.abbrev.specs.BlockInfo.{shared_for}
-use Rattle.abbrev.specs.Tables.{slot_count, Tables, tables, shareds, Whole, NothingHeld, row_count}
-use Rattle.abbrev.specs.declared.Abbreviations.{Abbreviations}
+use Rattle.abbrev.specs.Tables.{Tables, shareds}
 use Rattle.walk.specs.Piece.{Pieces, all_events, all_store}
 use Rattle.walk.specs.Item.{items, nested}
 use Rattle.walk.specs.Walk.{top_level, start, top_items, Outcome, denied, accepted, outcome, walk_stream, walk_by, listed, those, walk, entries, filled, no_header, result, walked}
@@ -56,14 +55,6 @@ body_is s skip t ne nops =
 none_closed : (end : ℕ) → entries (closed (outermost end)) ≡ []
 unfolding closed when◌then◌else◌ entries
 none_closed end = refl
-
--- the state that it begins with has the tables' sizes
-long : (l : List ℕ) (n : ℕ) → l ≡ replicate n 0 → length l ≡ n
-long l n e = ap length e ∙ length-replicate n 0
-
-pub new_whole : (a : Abbreviations) → NothingHeld a → Whole (tables a.kinds a.widths a.shapes a.owners)
-new_whole a h =
-    record { kinds = long a.kinds slot_count h.0; widths = long a.widths slot_count h.1; shapes = long a.shapes row_count h.2; owners = long a.owners 32 h.3 }
 
 pub stream_is : (s skip ev ev' ops ops' : List ℕ) (t t' : Tables) (have local : ℕ) (r : Result Marks Refused) → have ≡ 0 → local ≡ 0
     → Is s skip (outermost (length s)) (marks 0 0 0 have local) t t' ev ev' ops ops' r → Streams s skip ev ev' ops ops' r

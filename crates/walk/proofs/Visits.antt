@@ -174,11 +174,6 @@ picked_part b have {r} owners rows {rows'} long h z =
     let n : r - 0 ≡ length (picked b owners have (length rows)) = omega (arith, h) in
     ap₂ take n z ∙ take_at (picked b owners have (length rows)) (drop r rows) (length (picked b owners have (length rows))) refl ∙ ap (picked b owners have) long
 
-pub picked_fits : (b have : ℕ) {r : ℕ} (owners rows : List ℕ) {rows' : List ℕ} → r ≡ length (picked b owners have (length rows))
-    → rows' ≡ picked b owners have (length rows) ++ drop r rows → r ≤ length rows'
-picked_fits b have {r} owners rows h z =
-    let l = ap length z ∙ length-append (picked b owners have (length rows)) (drop r rows) in omega (arith, l, h)
-
 pub going_first : (B : Block) (m : Marks) (t : Tables) (ev ops : List ℕ)
     → Whole t → Sits (length ev) (length ops) B.frame m → m.local ≡ B.frame.base → B.own.now ≡ picked B.frame.number t.owners m.shared 32
     → Going B m t ev ops t ev ops m

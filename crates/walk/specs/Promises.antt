@@ -113,7 +113,7 @@ pub record Sits (ne nops : ℕ) (f : Frame) (m : Marks) : Type 0 where
   pub base : f.base ≤ m.local
   pub local : m.local ≤ max_local
 
--- the same of the block that is walked, and its shared rows are in front of the marks
+-- the same for the block that is walked, and its shared rows are some of those that there are
 abbrev pub Stands : Block → Marks → List ℕ → List ℕ → Type 0
 Stands B m ev ops = Sits (length ev) (length ops) B.frame m × Below m.shared B.own.now
 
@@ -129,8 +129,8 @@ unfoldable pub closed : Frame → List Event
 closed f = when f.top then [] else leave f.number ∷ []
 
 -- a cursor of the block
-abbrev pub Behind : Frame → Cursor → Type 0
-Behind f d = d.end ≡ f.end
+abbrev pub Behind : Block → Cursor → Type 0
+Behind B d = d.end ≡ B.frame.end
 
 -- ---- one item: x is what its opening answers
 abbrev pub completed : Block → State → Answer Refusal Opening → Answer Refusal (Option Piece)
@@ -187,13 +187,15 @@ Does B m t t' ev ev' ops ops' x (Err r) =
 abbrev pub DoesNext : Block → Marks → Tables → Tables → List ℕ → List ℕ → List ℕ → List ℕ → Result Step Refused → Type 0
 DoesNext B m t t' ev ev' ops ops' r = Does B m t t' ev ev' ops ops' (opening_of B m t (length ev) (length ops)) r
 
--- what it does where its number n has been read, and d is behind it
+-- what it does from marks that stand in the block, where its number n has been read, and d is behind it
 abbrev pub DoesNumber : Block → Marks → ℕ → Cursor → Tables → Tables → List ℕ → List ℕ → List ℕ → List ℕ → Result Step Refused → Type 0
-DoesNumber B m n d t t' ev ev' ops ops' r = Does B m t t' ev ev' ops ops' (numbered_of B m t (length ev) (length ops) n d) r
+DoesNumber B m n d t t' ev ev' ops ops' r =
+    Stands B m ev ops → Does B m t t' ev ev' ops ops' (numbered_of B m t (length ev) (length ops) n d) r
 
 -- and where a block's head has been read, and g is behind it
 abbrev pub DoesHead : Block → Marks → BlockHead → Cursor → Tables → Tables → List ℕ → List ℕ → List ℕ → List ℕ → Result Step Refused → Type 0
-DoesHead B m h g t t' ev ev' ops ops' r = Does B m t t' ev ev' ops ops' (headed_at m h.block h.width h.length g) r
+DoesHead B m h g t t' ev ev' ops ops' r =
+    Stands B m ev ops → Does B m t t' ev ev' ops ops' (headed_at m h.block h.width h.length g) r
 
 -- the head is of a block that is passed over, or of one that is entered
 abbrev pub Passing : Block → BlockHead → Type 0

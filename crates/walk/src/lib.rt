@@ -9,7 +9,7 @@ ghost use Rattle.bits.specs.Told.{Gives, of_read};
 ghost use Rattle.bitcode.specs.Scalar.{value};
 ghost use Rattle.bitcode.specs.declared.ScalarOperand.TheVariants.{Char6};
 ghost use Rattle.abbrev.specs.Abbrev.{array, blob};
-ghost use Rattle.abbrev.specs.Tables.{row_size, slot_count, Tables, slots, abbrev_of, Whole, Kept};
+ghost use Rattle.abbrev.specs.Tables.{row_size, slot_count, Tables, slots, abbrev_of, Kept};
 ghost use Rattle.walk.specs.Record.{repeated, array_kind};
 ghost use Rattle.walk.specs.Walk.{walked};
 ghost use Rattle.walk.specs.declared.Block.{Block};
@@ -301,7 +301,7 @@ fn fill_scalars(
     count: usize,
     rest: &mut [u64],
 ) -> Result<(u64, Cursor), Reason>
-    requires { Whole (held tables.now) × (base + count ≤ slot_count) × (0 < count) }
+    requires { (base + count ≤ slot_count) × (0 < count) }
     ensures { Scalars c0 s.now (length rest.old) (slots tables.now.kinds tables.now.widths base count) count rest.new result }
 {
     let mut c = c0;
@@ -395,7 +395,7 @@ fn read_abbreviated(
     operands: &mut [u64],
     fill: usize,
 ) -> Result<(RecordRead, Cursor), Reason>
-    requires { Whole (held tables.now) × (base + row_size ≤ slot_count) × (fill ≤ length operands.old) }
+    requires { (base + row_size ≤ slot_count) × (fill ≤ length operands.old) }
     ensures { Recorded c s.now (abbreviated (length operands.old - fill) (abbrev_of tables.now.kinds tables.now.widths base shape)) fill operands.old operands.new result }
 {
     let n = (shape % ARRAY_SHAPE) as usize;
@@ -477,8 +477,8 @@ impl<'a> Block<'a> {
 
     // Number 0: align, and leave.
     fn leave(&self, m: Marks, d: Cursor, events: &mut [u64]) -> Result<Step, Reason>
-        requires { (m.events ≤ length events.old) × Behind self.now.frame d }
-        ensures { (ops : List ℕ) (t : Tables) → Stands self.now m events.old ops → DoesNumber self.now m 0 d t t events.old events.new ops ops (placed_at m.at result) }
+        requires { (m.events ≤ length events.old) × Behind self.now d }
+        ensures { (ops : List ℕ) (t : Tables) → DoesNumber self.now m 0 d t t events.old events.new ops ops (placed_at m.at result) }
     {
         let g = d.align32(self.stream)?;
         let behind = Marks {
@@ -506,11 +506,10 @@ impl<'a> Block<'a> {
         g: Cursor,
         tables: &mut Abbreviations,
     ) -> Result<Step, Refused>
-        requires whole { Whole (held tables.old) }
         requires in_range { (m.shared ≤ max_shared) × (m.local ≤ max_local) × (g.at + 8 * head.length ≤ 18446744073709551615) }
         requires zero { head.block ≡ 0 }
         ensures kept { Kept m.shared m.local (held tables.old) (held tables.new) }
-        ensures does { (ev ops : List ℕ) → Stands self.now m ev ops → DoesHead self.now m head g (held tables.old) (held tables.new) ev ev ops ops result }
+        ensures does { (ev ops : List ℕ) → DoesHead self.now m head g (held tables.old) (held tables.new) ev ev ops ops result }
     {
         let c = Cursor {
             at: g.at,
@@ -542,7 +541,7 @@ impl<'a> Block<'a> {
         events: &mut [u64],
     ) -> Result<Step, Reason>
         requires { (m.events ≤ length events.old) × Entering self.now head × (g.at + 8 * head.length ≤ limit self.now.stream.now self.now.frame.end) }
-        ensures { (ops : List ℕ) (t : Tables) → Stands self.now m events.old ops → DoesHead self.now m head g t t events.old events.new ops ops (placed_at m.at result) }
+        ensures { (ops : List ℕ) (t : Tables) → DoesHead self.now m head g t t events.old events.new ops ops (placed_at m.at result) }
     {
         if self.frame.left == 0 {
             return Err(Reason::TooDeep(head.block));
@@ -574,10 +573,9 @@ impl<'a> Block<'a> {
         tables: &mut Abbreviations,
         events: &mut [u64],
     ) -> Result<Step, Refused>
-        requires whole { Whole (held tables.old) }
-        requires in_range { (m.events ≤ length events.old) × (m.shared ≤ max_shared) × (m.local ≤ max_local) × Behind self.now.frame d }
+        requires in_range { (m.events ≤ length events.old) × (m.shared ≤ max_shared) × (m.local ≤ max_local) × Behind self.now d }
         ensures kept { Kept m.shared m.local (held tables.old) (held tables.new) }
-        ensures does { (ops : List ℕ) → Stands self.now m events.old ops → DoesNumber self.now m 1 d (held tables.old) (held tables.new) events.old events.new ops ops result }
+        ensures does { (ops : List ℕ) → DoesNumber self.now m 1 d (held tables.old) (held tables.new) events.old events.new ops ops result }
     {
         let (head, g) = m.placed(read_head(d, self.stream))?;
         if head.block == 0 {
@@ -591,10 +589,9 @@ impl<'a> Block<'a> {
 
     // Number 2: a local definition. It is read into the next local row; its room is tested behind it.
     fn define_local(&self, m: Marks, d: Cursor, tables: &mut Abbreviations) -> Result<Step, Reason>
-        requires whole { Whole (held tables.old) }
-        requires in_range { (m.shared ≤ max_shared) × (m.local ≤ max_local) × Behind self.now.frame d }
+        requires in_range { (m.shared ≤ max_shared) × (m.local ≤ max_local) × Behind self.now d }
         ensures kept { Kept m.shared m.local (held tables.old) (held tables.new) }
-        ensures does { (ev ops : List ℕ) → Stands self.now m ev ops → DoesNumber self.now m 2 d (held tables.old) (held tables.new) ev ev ops ops (placed_at m.at result) }
+        ensures does { (ev ops : List ℕ) → DoesNumber self.now m 2 d (held tables.old) (held tables.new) ev ev ops ops (placed_at m.at result) }
     {
         let row = LOCAL + m.local;
         let (shape, g) = abbrev::define_abbrev(
@@ -654,7 +651,7 @@ impl<'a> Block<'a> {
         events: &mut [u64],
         operands: &mut [u64],
     ) -> Result<Step, Reason>
-        requires { Stands self.now m events.old operands.old × Behind self.now.frame d }
+        requires { Stands self.now m events.old operands.old × Behind self.now d }
         ensures { (t : Tables) → DoesNumber self.now m 3 d t t events.old events.new operands.old operands.new (placed_at m.at result) }
     {
         let (r, g) = read_unabbreviated(d, self.stream, operands, m.operands)?;
@@ -671,8 +668,7 @@ impl<'a> Block<'a> {
         events: &mut [u64],
         operands: &mut [u64],
     ) -> Result<Step, Reason>
-        requires whole { Whole (held tables.now) }
-        requires stands { Stands self.now m events.old operands.old × Behind self.now.frame d × (4 ≤ n) }
+        requires stands { Stands self.now m events.old operands.old × Behind self.now d × (4 ≤ n) }
         ensures { DoesNumber self.now m n d (held tables.now) (held tables.now) events.old events.new operands.old operands.new (placed_at m.at result) }
     {
         let block = BlockNumber(self.frame.number);
@@ -698,7 +694,6 @@ impl<'a> Block<'a> {
         ev: &mut [u64],
         ops: &mut [u64],
     ) -> Result<Step, Refused>
-        requires whole { Whole (held tables.old) }
         requires stands { Stands self.now m ev.old ops.old }
         ensures kept { Kept m.shared m.local (held tables.old) (held tables.new) }
         ensures does { DoesNext self.now m (held tables.old) (held tables.new) ev.old ev.new ops.old ops.new result }
@@ -724,7 +719,7 @@ impl<'a> Block<'a> {
 // A block of the skip list: a skip event, and its body stays unread.
 fn pass_over(m: Marks, head: BlockHead, g: Cursor, events: &mut [u64]) -> Result<Step, Reason>
     requires { (m.events ≤ length events.old) × (g.at + 8 * head.length ≤ 18446744073709551615) }
-    ensures { (b : Block) (ops : List ℕ) (t : Tables) → Passing b head → Stands b m events.old ops → DoesHead b m head g t t events.old events.new ops ops (placed_at m.at result) }
+    ensures { (b : Block) (ops : List ℕ) (t : Tables) → Passing b head → DoesHead b m head g t t events.old events.new ops ops (placed_at m.at result) }
 {
     let e = [SKIP, head.block, head.width, g.at / 8, head.length, 0, 0, 0];
     put_event(events, m.events, e)?;
@@ -746,7 +741,6 @@ fn visit_block(
     ev: &mut [u64],
     ops: &mut [u64],
 ) -> Result<Marks, Refused>
-    requires whole { Whole (held tables.old) }
     requires sits { Sits (length ev.old) (length ops.old) f m × (m.local ≡ f.base) }
     ensures kept { Kept m.shared m.local (held tables.old) (held tables.new) }
     ensures is { Is s.now skip.now f m (held tables.old) (held tables.new) ev.old ev.new ops.old ops.new result }

@@ -1,35 +1,26 @@
 -- `walk::visit_block` meets its contract: its loop walks the items of a block as the definition does, and calls itself with one level less to go. Assumes nothing.
--- the levels to go
--- the bits to go
--- what the callees ask and ensure, with a call of `visit_block` itself at a smaller measure
 use native.Mathlib.Omega.{arith}
 use mathlib.Core.Path.{◌∙◌, refl}
 use lib.ListN.{replicate}
 use Rattle.bits.proofs.Laws.{limit_le}
 use Rattle.bits.proofs.Steps.{handed}
 use Rattle.walk.specs.Promises.{Is}
-use Rattle.abbrev.proofs.Held.{whole_kept}
-use Rattle.walk.proofs.Visits.{going_first, going_onward, onward_less, going_behind, behind_less, is_over, is_stopped, is_refused, kept_item, kept_nested, inner_sits, picked_part, picked_fits}
+use Rattle.walk.proofs.Visits.{going_first, going_onward, onward_less, going_behind, behind_less, is_over, is_stopped, is_refused, kept_item, kept_nested, inner_sits, picked_part}
 use Rattle.walk.proofs.+visit_block.Goals as goal
-
-pub slice_bounds-block-end : goal.slice_bounds-block-end
-slice_bounds-block-end t c =
-    let r = c.shared_rows-many.ensures in
-    picked_fits _ _ _ (replicate 32 0) r.many r.stored
 
 pub loop-step-init : goal.loop-step-init
 loop-step-init t c =
     let p = c.requires in
     let r = c.shared_rows-many.ensures in
-    going_first _ _ _ _ _ p.whole p.sits.0 p.sits.1 (picked_part _ _ _ (replicate 32 0) refl r.many r.stored)
+    going_first _ _ _ _ _ (record { kinds = omega arith; widths = omega arith; shapes = omega arith; owners = omega arith }) p.sits.0 p.sits.1 (picked_part _ _ _ (replicate 32 0) refl r.many r.stored)
 
 pub try_next-requires : goal.try_next-requires
 try_next-requires t c =
-    let g = c.loop-step.invariant in record { whole = g.whole; stands = (g.sits, g.below) }
+    let g = c.loop-step.invariant in
+    record { stands = (g.sits, g.below) }
 
 pub loop-step-smaller-in-Go : goal.loop-step-smaller-in-Go
 loop-step-smaller-in-Go t c =
-    let i = c.try_next in
     let g = c.loop-step.invariant in
     let d = rw c.in-Go.is at c.in_ok-step.ensures.does in
     onward_less g d
@@ -39,15 +30,10 @@ loop-step-preserved-in-Go t c =
     let i = c.try_next in
     let g = c.loop-step.invariant in
     let d = rw c.in-Go.is at c.in_ok-step.ensures.does in
-    let k = i.ensures.kept in
-    let p = i.auto.ev in
-    let q = i.auto.ops in
-    going_onward g k p q d
+    going_onward g i.ensures.kept i.auto.ev i.auto.ops d
 
 pub inside-inner-requires : goal.inside-inner-requires
 inside-inner-requires t c =
-    let i = c.try_next in
-    let g = c.loop-step.invariant in
     let d = rw c.in-Into.is at c.in_ok-step.ensures.does in
     let a = c.args in
     (d.levels, omega (arith, d.fits, limit_le a.s.now a.f.end))
@@ -57,24 +43,16 @@ visit_block-requires t c =
     let i = c.try_next in
     let g = c.loop-step.invariant in
     let d = rw c.in-Into.is at c.in_ok-step.ensures.does in
-    let k = i.ensures.kept in
-    let p = i.auto.ev in
-    let q = i.auto.ops in
-    let w = c.requires in
-    rw c.inside-inner.ensures (omega (arith, w.whole, d.levels), (whole_kept g.whole k, (inner_sits g k p q d, refl)))
+    rw c.inside-inner.ensures (omega (arith, d.levels), (inner_sits g i.ensures.kept i.auto.ev i.auto.ops d, refl))
 
 pub overflow_mul-st : goal.overflow_mul-st
 overflow_mul-st t c =
-    let i = c.try_next in
-    let g = c.loop-step.invariant in
     let d = rw c.in-Into.is at c.in_ok-step.ensures.does in
     let a = c.args in
     record { fits = omega (arith, d.fits, limit_le a.s.now a.f.end) }
 
 pub overflow_add-st : goal.overflow_add-st
 overflow_add-st t c =
-    let i = c.try_next in
-    let g = c.loop-step.invariant in
     let d = rw c.in-Into.is at c.in_ok-step.ensures.does in
     let a = c.args in
     record { fits = omega (arith, d.fits, limit_le a.s.now a.f.end) }
@@ -84,32 +62,18 @@ loop-step-smaller t c =
     let i = c.try_next in
     let g = c.loop-step.invariant in
     let d = rw c.in-Into.is at c.in_ok-step.ensures.does in
-    let k = i.ensures.kept in
-    let p = i.auto.ev in
-    let q = i.auto.ops in
     let n = c.visit_block in
-    let v = c.inside-inner.ensures in
-    let l = n.ensures.kept in
-    let a = rw v at c.in_ok-u-in-Into.ensures.is in
-    let p2 = n.auto.ev in
-    let q2 = n.auto.ops in
-    behind_less g k p q d l p2 q2 a
+    let a = rw c.inside-inner.ensures at c.in_ok-u-in-Into.ensures.is in
+    behind_less g i.ensures.kept i.auto.ev i.auto.ops d n.ensures.kept n.auto.ev n.auto.ops a
 
 pub loop-step-preserved : goal.loop-step-preserved
 loop-step-preserved t c =
     let i = c.try_next in
     let g = c.loop-step.invariant in
     let d = rw c.in-Into.is at c.in_ok-step.ensures.does in
-    let k = i.ensures.kept in
-    let p = i.auto.ev in
-    let q = i.auto.ops in
     let n = c.visit_block in
-    let v = c.inside-inner.ensures in
-    let l = n.ensures.kept in
-    let a = rw v at c.in_ok-u-in-Into.ensures.is in
-    let p2 = n.auto.ev in
-    let q2 = n.auto.ops in
-    going_behind g k p q d l p2 q2 a
+    let a = rw c.inside-inner.ensures at c.in_ok-u-in-Into.ensures.is in
+    going_behind g i.ensures.kept i.auto.ev i.auto.ops d n.ensures.kept n.auto.ev n.auto.ops a
 
 pub shape_of-ev-in_err-u-in-Into : goal.shape_of-ev-in_err-u-in-Into
 shape_of-ev-in_err-u-in-Into t c =
@@ -124,14 +88,9 @@ returns-in_err-u-in-Into t c =
     let i = c.try_next in
     let g = c.loop-step.invariant in
     let d = rw c.in-Into.is at c.in_ok-step.ensures.does in
-    let k = i.ensures.kept in
-    let p = i.auto.ev in
-    let q = i.auto.ops in
     let n = c.visit_block in
-    let v = c.inside-inner.ensures in
-    let l = n.ensures.kept in
-    let a = rw v at c.in_err-u-in-Into.ensures.is in
-    record { kept = kept_nested g k p q d l; is = handed (Is _ _ _ _ _ _ _ _ _ _) _ c.from_residual-in_err-u-in-Into.ensures.1 (is_refused g k p q d a) }
+    let a = rw c.inside-inner.ensures at c.in_err-u-in-Into.ensures.is in
+    record { kept = kept_nested g i.ensures.kept i.auto.ev i.auto.ops d n.ensures.kept; is = handed (Is _ _ _ _ _ _ _ _ _ _) _ c.from_residual-in_err-u-in-Into.ensures.1 (is_refused g i.ensures.kept i.auto.ev i.auto.ops d a) }
 
 pub shape_of-ev-in-End : goal.shape_of-ev-in-End
 shape_of-ev-in-End t c =
@@ -146,7 +105,7 @@ returns-in-End t c =
     let i = c.try_next in
     let g = c.loop-step.invariant in
     let d = rw c.in-End.is at c.in_ok-step.ensures.does in
-    let k = i.ensures.kept in record { kept = kept_item g k; is = is_over g k d }
+    record { kept = kept_item g i.ensures.kept; is = is_over g i.ensures.kept d }
 
 pub shape_of-ev-in_err-step : goal.shape_of-ev-in_err-step
 shape_of-ev-in_err-step t c =
@@ -161,5 +120,4 @@ returns-in_err-step t c =
     let i = c.try_next in
     let g = c.loop-step.invariant in
     let d = c.in_err-step.ensures.does in
-    let k = i.ensures.kept in
-    record { kept = kept_item g k; is = handed (Is _ _ _ _ _ _ _ _ _ _) _ c.from_residual.ensures.1 (is_stopped g d) }
+    record { kept = kept_item g i.ensures.kept; is = handed (Is _ _ _ _ _ _ _ _ _ _) _ c.from_residual.ensures.1 (is_stopped g d) }

@@ -1,7 +1,8 @@
 -- `walk::pass_over` meets its contract: a block of the skip list gives its skip event, and its body stays unread. Assumes nothing.
 use native.Mathlib.Omega.{arith}
 use Rattle.walk.specs.Walk.{entry}
-use Rattle.walk.proofs.Items.{stopped_in, skip_full, skip_went}
+use Rattle.walk.proofs.Items.{skip_full, skip_went}
+use Rattle.walk.proofs.Parts.{stopped_in}
 use Rattle.walk.proofs.pass_over.Goals as goal
 
 pub returns-in_err-put_event : goal.returns-in_err-put_event

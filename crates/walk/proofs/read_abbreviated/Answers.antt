@@ -30,16 +30,16 @@ returns-in-0 c =
     let z = rw e at c.in_ok-code.ensures in
     let ys = c.fill_scalars.new.rest in
     let ops1 = put_mid fill (length ops - fill) ops ys in
-    let h : fill + (n - 1) ≤ length ops1 = omega (arith, c.requires.2, e, z.1) in
+    let h : fill + (n - 1) ≤ length ops1 = omega (arith, c.requires.1, e, z.1) in
     let l = none_loads _ (a.shape / row_size) _ (n - 1) (fill + (n - 1)) _ ops1 c.in-0.is h in
-    load_told (length ops - fill) a.tables.now.kinds a.tables.now.widths a.base a.shape fill ys ops ops1 (Ok (_, _)) c.requires.2 z.0 z.1 l
+    load_told (length ops - fill) a.tables.now.kinds a.tables.now.widths a.base a.shape fill ys ops ops1 (Ok (_, _)) c.requires.1 z.0 z.1 l
 
 pub read_array-requires : goal.read_array-requires
 read_array-requires c =
     let ops = c.args.operands.now in
     let e = mid_len c.args.fill (length ops) ops (omega arith) in
     let z = rw e at c.in_ok-code.ensures in
-    omega (arith, c.requires.2, e, z.1)
+    omega (arith, c.requires.1, e, z.1)
 
 pub returns-in-1 : goal.returns-in-1
 returns-in-1 c =
@@ -51,11 +51,11 @@ returns-in-1 c =
     let z = rw e at c.in_ok-code.ensures in
     let ys = c.fill_scalars.new.rest in
     let ops1 = put_mid fill (length ops - fill) ops ys in
-    let q : length ops1 - (fill + (n - 1)) ≡ length ops - fill - (n - 1) = omega (arith, c.requires.2, e, z.1) in
+    let q : length ops1 - (fill + (n - 1)) ≡ length ops - fill - (n - 1) = omega (arith, c.requires.1, e, z.1) in
     let t = c.read_array in
     let k = slot a.tables.now.kinds a.tables.now.widths (a.base + n) in
     let l = array_told _ _ _ _ (a.shape / row_size) k ops1 _ _ t.result c.in-1.is q (rw c.scalar_operand-k.ensures at t.ensures) in
-    load_told (length ops - fill) a.tables.now.kinds a.tables.now.widths a.base a.shape fill ys ops _ t.result c.requires.2 z.0 z.1 l
+    load_told (length ops - fill) a.tables.now.kinds a.tables.now.widths a.base a.shape fill ys ops _ t.result c.requires.1 z.0 z.1 l
 
 pub returns-in_default : goal.returns-in_default
 returns-in_default c =
@@ -67,7 +67,7 @@ returns-in_default c =
     let z = rw e at c.in_ok-code.ensures in
     let ys = c.fill_scalars.new.rest in
     let ops1 = put_mid fill (length ops - fill) ops ys in
-    let h : fill + (n - 1) ≤ length ops1 = omega (arith, c.requires.2, e, z.1) in
+    let h : fill + (n - 1) ≤ length ops1 = omega (arith, c.requires.1, e, z.1) in
     let t = c.read_blob in
     let l = blob_told _ _ _ (a.shape / row_size) _ ops1 ops1 _ t.result (λ i. omega arith) (λ i. omega arith) (t.ensures _ ops1 h) in
-    load_told (length ops - fill) a.tables.now.kinds a.tables.now.widths a.base a.shape fill ys ops ops1 t.result c.requires.2 z.0 z.1 l
+    load_told (length ops - fill) a.tables.now.kinds a.tables.now.widths a.base a.shape fill ys ops ops1 t.result c.requires.1 z.0 z.1 l

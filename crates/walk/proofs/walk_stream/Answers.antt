@@ -1,21 +1,7 @@
 -- `walk::walk_stream` meets its contract: the top level is a block's body, from the first bit, with no abbreviation. Assumes nothing.
-use native.Mathlib.Omega.{arith}
 use Rattle.walk.specs.Promises.{held}
-use Rattle.walk.proofs.Outer.{new_whole, stream_is}
+use Rattle.walk.proofs.Outer.{stream_is}
 use Rattle.walk.proofs.walk_stream.Goals as goal
-
-pub visit_block-requires : goal.visit_block-requires
-visit_block-requires c =
-    let n = c.new-tables in
-    let s = n.ensures.4 in
-    let l = n.ensures.5 in
-    record {
-      whole = new_whole n.result n.ensures;
-      sits = (
-        record { events = omega arith; operands = omega arith; shared = omega (arith, s); base = omega arith; local = omega (arith, l) },
-        l,
-      );
-    }
 
 pub returns : goal.returns
 returns c =

@@ -6,7 +6,8 @@ use Rattle.bits.specs.Reader.{refused}
 use Rattle.bits.proofs.Laws.{limit_le}
 use Rattle.abbrev.proofs.Held.{kept_refl}
 use Rattle.walk.specs.Promises.{held}
-use Rattle.walk.proofs.Items.{stopped, completed_off, head_done, head_off, does_as, placed_ok, placed_err}
+use Rattle.walk.proofs.Items.{completed_off, head_done, head_off}
+use Rattle.walk.proofs.Parts.{head_next, stopped, does_as, placed_err}
 use Rattle.walk.proofs.Outer.{listed_as}
 use Rattle.walk.proofs.Block.enter_sub_block.Goals as goal
 
@@ -29,23 +30,19 @@ read_info-requires c =
     let a = c.args in
     let b = a.self.now in
     let p = c.requires in
-    let w = rw (placed_ok _ _ (sym c.placed.ensures ∙ c.in_ok-head.was)) at c.read_head.ensures in
-    let l = rw p.in_range.3 at w.1 in
-    record { whole = p.whole; in_range = (p.in_range.1, p.in_range.2, omega (arith, l, limit_le b.stream.now b.frame.end)); zero = c.if-head-eq0.true }
+    let w = head_next b a.m a.d c.read_head.result p.in_range.3 c.read_head.ensures (sym c.placed.ensures ∙ c.in_ok-head.was) in
+    record { in_range = (p.in_range.1, p.in_range.2, omega (arith, w.1, limit_le b.stream.now b.frame.end)); zero = c.if-head-eq0.true }
 
 pub returns-then-head-eq0 : goal.returns-then-head-eq0
 returns-then-head-eq0 c =
     let a = c.args in
     let b = a.self.now in
     let p = c.requires in
-    let w = rw (placed_ok _ _ (sym c.placed.ensures ∙ c.in_ok-head.was)) at c.read_head.ensures in
-    let l = rw p.in_range.3 at w.1 in
-    let z = rw p.in_range.3 at w.0 in
+    let w = head_next b a.m a.d c.read_head.result p.in_range.3 c.read_head.ensures (sym c.placed.ensures ∙ c.in_ok-head.was) in
     record {
       kept = c.read_info.ensures.kept;
       does = λ ops stands.
-          does_as b a.m _ _ _ _ _ _ _ c.read_info.result
-          (head_done _ _ _ _ _ _ z.gives)
+          does_as b a.m _ _ _ _ _ _ _ c.read_info.result (head_done _ _ _ _ _ _ w.0)
           (c.read_info.ensures.does a.events.now ops stands);
     }
 
@@ -54,25 +51,22 @@ pass_over-requires c =
     let a = c.args in
     let b = a.self.now in
     let p = c.requires in
-    let w = rw (placed_ok _ _ (sym c.placed.ensures ∙ c.in_ok-head.was)) at c.read_head.ensures in
-    let l = rw p.in_range.3 at w.1 in
-    (p.in_range.0, omega (arith, l, limit_le b.stream.now b.frame.end))
+    let w = head_next b a.m a.d c.read_head.result p.in_range.3 c.read_head.ensures (sym c.placed.ensures ∙ c.in_ok-head.was) in
+    (p.in_range.0, omega (arith, w.1, limit_le b.stream.now b.frame.end))
 
 pub returns-then-contains : goal.returns-then-contains
 returns-then-contains c =
     let a = c.args in
     let b = a.self.now in
     let p = c.requires in
-    let w = rw (placed_ok _ _ (sym c.placed.ensures ∙ c.in_ok-head.was)) at c.read_head.ensures in
-    let l = rw p.in_range.3 at w.1 in
-    let z = rw p.in_range.3 at w.0 in
+    let w = head_next b a.m a.d c.read_head.result p.in_range.3 c.read_head.ensures (sym c.placed.ensures ∙ c.in_ok-head.was) in
     let t = held a.tables.now in
     let i = sym (listed_as c.in_ok-head.head.block b.skip.now) ∙ sym c.contains.ensures.value ∙ c.if-contains.true in
     record {
       kept = kept_refl _ _ _;
       does = λ ops stands.
           rw c.placed-then-contains.ensures
-          (does_as b a.m _ _ _ _ _ _ _ _ (head_done _ _ _ _ _ _ z.gives)
+          (does_as b a.m _ _ _ _ _ _ _ _ (head_done _ _ _ _ _ _ w.0)
           (c.pass_over.ensures b ops t (c.if-head-eq0.false, i) stands));
     }
 
@@ -81,25 +75,22 @@ open_block-requires c =
     let a = c.args in
     let b = a.self.now in
     let p = c.requires in
-    let w = rw (placed_ok _ _ (sym c.placed.ensures ∙ c.in_ok-head.was)) at c.read_head.ensures in
-    let l = rw p.in_range.3 at w.1 in
+    let w = head_next b a.m a.d c.read_head.result p.in_range.3 c.read_head.ensures (sym c.placed.ensures ∙ c.in_ok-head.was) in
     let i = sym (listed_as c.in_ok-head.head.block b.skip.now) ∙ sym c.contains.ensures.value ∙ c.if-contains.false in
-    (p.in_range.0, (c.if-head-eq0.false, i), l)
+    (p.in_range.0, (c.if-head-eq0.false, i), w.1)
 
 pub returns : goal.returns
 returns c =
     let a = c.args in
     let b = a.self.now in
     let p = c.requires in
-    let w = rw (placed_ok _ _ (sym c.placed.ensures ∙ c.in_ok-head.was)) at c.read_head.ensures in
-    let l = rw p.in_range.3 at w.1 in
-    let z = rw p.in_range.3 at w.0 in
+    let w = head_next b a.m a.d c.read_head.result p.in_range.3 c.read_head.ensures (sym c.placed.ensures ∙ c.in_ok-head.was) in
     let t = held a.tables.now in
     let i = sym (listed_as c.in_ok-head.head.block b.skip.now) ∙ sym c.contains.ensures.value ∙ c.if-contains.false in
     record {
       kept = kept_refl _ _ _;
       does = λ ops stands.
           rw c.placed-2.ensures
-          (does_as b a.m _ _ _ _ _ _ _ _ (head_done _ _ _ _ _ _ z.gives)
+          (does_as b a.m _ _ _ _ _ _ _ _ (head_done _ _ _ _ _ _ w.0)
           (c.open_block.ensures ops t stands));
     }

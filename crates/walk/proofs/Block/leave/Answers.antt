@@ -1,7 +1,8 @@
 -- `walk::Block::leave` meets its contract: END_BLOCK aligns, writes the leave event and frees the local abbreviations. Assumes nothing.
 use native.Mathlib.Omega.{arith}
 use Rattle.walk.specs.Walk.{entry}
-use Rattle.walk.proofs.Items.{stopped_in, completed_off, ended_top, ended_block, leave_off, leave_top, leave_full, leave_done}
+use Rattle.walk.proofs.Items.{completed_off, ended_top, ended_block, leave_off, leave_top, leave_full, leave_done}
+use Rattle.walk.proofs.Parts.{stopped_in}
 use Rattle.walk.proofs.Block.leave.Goals as goal
 
 pub returns-in_err-g : goal.returns-in_err-g

@@ -1,7 +1,8 @@
 -- `walk::Block::open_block` meets its contract: 16, then 18, then the enter event. Assumes nothing.
 use native.Mathlib.Omega.{arith}
 use Rattle.walk.specs.Walk.{entry}
-use Rattle.walk.proofs.Items.{stopped_in, enter_deep, enter_full, block_entered}
+use Rattle.walk.proofs.Items.{enter_deep, enter_full, block_entered}
+use Rattle.walk.proofs.Parts.{stopped_in}
 use Rattle.walk.proofs.Block.open_block.Goals as goal
 
 pub returns-then-self-eq0 : goal.returns-then-self-eq0

@@ -7,8 +7,9 @@ use Rattle.terms.specs.Refusals.{refusal_of}
 use Rattle.bits.specs.Reader.{refused}
 use Rattle.bits.specs.Bits.{limit, ends_at}
 use Rattle.abbrev.proofs.Held.{kept_refl}
-use Rattle.walk.specs.Promises.{context, state_of, numbered_of, held}
-use Rattle.walk.proofs.Items.{stopped, completed_off, open_off, open_number, does_as, placed_ok, placed_err}
+use Rattle.walk.specs.Promises.{numbered_of, held}
+use Rattle.walk.proofs.Items.{completed_off, open_off}
+use Rattle.walk.proofs.Parts.{next_is, stopped, does_as, placed_ok, placed_err}
 use Rattle.walk.proofs.Block.try_next.Goals as goal
 
 pub returns-then-is_at_end : goal.returns-then-is_at_end
@@ -58,7 +59,7 @@ enter_sub_block-requires c =
     let b = a.self.now in
     let p = c.requires in
     let x = rw (placed_ok _ _ (sym c.placed-2.ensures ∙ c.in_ok-n.was)) at c.read_number.ensures in
-    record { whole = p.whole; in_range = (p.stands.0.events, p.stands.0.shared, p.stands.0.local, x.ends) }
+    record { in_range = (p.stands.0.events, p.stands.0.shared, p.stands.0.local, x.ends) }
 
 pub define_local-requires : goal.define_local-requires
 define_local-requires c =
@@ -66,7 +67,7 @@ define_local-requires c =
     let b = a.self.now in
     let p = c.requires in
     let x = rw (placed_ok _ _ (sym c.placed-2.ensures ∙ c.in_ok-n.was)) at c.read_number.ensures in
-    record { whole = p.whole; in_range = (p.stands.0.shared, p.stands.0.local, x.ends) }
+    record { in_range = (p.stands.0.shared, p.stands.0.local, x.ends) }
 
 pub record_plain-requires : goal.record_plain-requires
 record_plain-requires c =
@@ -82,18 +83,16 @@ record_abbreviated-requires c =
     let b = a.self.now in
     let p = c.requires in
     let x = rw (placed_ok _ _ (sym c.placed-2.ensures ∙ c.in_ok-n.was)) at c.read_number.ensures in
-    record { whole = p.whole; stands = (p.stands, x.ends, omega arith) }
+    record { stands = (p.stands, x.ends, omega arith) }
 
 pub returns-in-0 : goal.returns-in-0
-unfolding ends_at
 returns-in-0 c =
     let a = c.args in
     let b = a.self.now in
     let p = c.requires in
-    let x = rw (placed_ok _ _ (sym c.placed-2.ensures ∙ c.in_ok-n.was)) at c.read_number.ensures in
     let t = held a.tables.now in
-    let under = leb-false (limit b.stream.now b.frame.end) a.m.at (sym c.is_at_end.ensures ∙ c.if-is_at_end.false) in
-    let o = open_number (context b.frame) (state_of b a.m t (length a.ev.now) (length a.ops.now)) b.stream.now b.frame.end a.m.at under x.gives
+    let i = sym c.is_at_end.ensures ∙ c.if-is_at_end.false in
+    let o = (next_is b a.m t (length a.ev.now) (length a.ops.now) c.read_number.result i c.read_number.ensures (sym c.placed-2.ensures ∙ c.in_ok-n.was)).0
     ∙ ap (λ i. numbered_of b a.m t (length a.ev.now) (length a.ops.now) i c.in_ok-n.d) c.in-0.is in
     record {
       kept = kept_refl _ _ _;
@@ -101,15 +100,13 @@ returns-in-0 c =
     }
 
 pub returns-in-1 : goal.returns-in-1
-unfolding ends_at
 returns-in-1 c =
     let a = c.args in
     let b = a.self.now in
     let p = c.requires in
-    let x = rw (placed_ok _ _ (sym c.placed-2.ensures ∙ c.in_ok-n.was)) at c.read_number.ensures in
     let t = held a.tables.now in
-    let under = leb-false (limit b.stream.now b.frame.end) a.m.at (sym c.is_at_end.ensures ∙ c.if-is_at_end.false) in
-    let o = open_number (context b.frame) (state_of b a.m t (length a.ev.now) (length a.ops.now)) b.stream.now b.frame.end a.m.at under x.gives
+    let i = sym c.is_at_end.ensures ∙ c.if-is_at_end.false in
+    let o = (next_is b a.m t (length a.ev.now) (length a.ops.now) c.read_number.result i c.read_number.ensures (sym c.placed-2.ensures ∙ c.in_ok-n.was)).0
     ∙ ap (λ i. numbered_of b a.m t (length a.ev.now) (length a.ops.now) i c.in_ok-n.d) c.in-1.is in
     record {
       kept = c.enter_sub_block.ensures.kept;
@@ -117,15 +114,13 @@ returns-in-1 c =
     }
 
 pub returns-in-2 : goal.returns-in-2
-unfolding ends_at
 returns-in-2 c =
     let a = c.args in
     let b = a.self.now in
     let p = c.requires in
-    let x = rw (placed_ok _ _ (sym c.placed-2.ensures ∙ c.in_ok-n.was)) at c.read_number.ensures in
     let t = held a.tables.now in
-    let under = leb-false (limit b.stream.now b.frame.end) a.m.at (sym c.is_at_end.ensures ∙ c.if-is_at_end.false) in
-    let o = open_number (context b.frame) (state_of b a.m t (length a.ev.now) (length a.ops.now)) b.stream.now b.frame.end a.m.at under x.gives
+    let i = sym c.is_at_end.ensures ∙ c.if-is_at_end.false in
+    let o = (next_is b a.m t (length a.ev.now) (length a.ops.now) c.read_number.result i c.read_number.ensures (sym c.placed-2.ensures ∙ c.in_ok-n.was)).0
     ∙ ap (λ i. numbered_of b a.m t (length a.ev.now) (length a.ops.now) i c.in_ok-n.d) c.in-2.is in
     record {
       kept = c.define_local.ensures.kept;
@@ -133,32 +128,28 @@ returns-in-2 c =
     }
 
 pub returns-in-3 : goal.returns-in-3
-unfolding ends_at
 returns-in-3 c =
     let a = c.args in
     let b = a.self.now in
     let p = c.requires in
-    let x = rw (placed_ok _ _ (sym c.placed-2.ensures ∙ c.in_ok-n.was)) at c.read_number.ensures in
     let t = held a.tables.now in
-    let under = leb-false (limit b.stream.now b.frame.end) a.m.at (sym c.is_at_end.ensures ∙ c.if-is_at_end.false) in
-    let o = open_number (context b.frame) (state_of b a.m t (length a.ev.now) (length a.ops.now)) b.stream.now b.frame.end a.m.at under x.gives
+    let i = sym c.is_at_end.ensures ∙ c.if-is_at_end.false in
+    let o = (next_is b a.m t (length a.ev.now) (length a.ops.now) c.read_number.result i c.read_number.ensures (sym c.placed-2.ensures ∙ c.in_ok-n.was)).0
     ∙ ap (λ i. numbered_of b a.m t (length a.ev.now) (length a.ops.now) i c.in_ok-n.d) c.in-3.is in
     record {
       kept = kept_refl _ _ _;
-      does = rw c.placed-in-3.ensures (does_as b a.m _ _ _ _ _ _ _ _ o (c.record_plain.ensures t));
+      does = rw c.placed-in-3.ensures (does_as b a.m _ _ _ _ _ _ _ _ o (c.record_plain.ensures t p.stands));
     }
 
 pub returns-in_default : goal.returns-in_default
-unfolding ends_at
 returns-in_default c =
     let a = c.args in
     let b = a.self.now in
     let p = c.requires in
-    let x = rw (placed_ok _ _ (sym c.placed-2.ensures ∙ c.in_ok-n.was)) at c.read_number.ensures in
     let t = held a.tables.now in
-    let under = leb-false (limit b.stream.now b.frame.end) a.m.at (sym c.is_at_end.ensures ∙ c.if-is_at_end.false) in
-    let o = open_number (context b.frame) (state_of b a.m t (length a.ev.now) (length a.ops.now)) b.stream.now b.frame.end a.m.at under x.gives in
+    let i = sym c.is_at_end.ensures ∙ c.if-is_at_end.false in
+    let o = (next_is b a.m t (length a.ev.now) (length a.ops.now) c.read_number.result i c.read_number.ensures (sym c.placed-2.ensures ∙ c.in_ok-n.was)).0 in
     record {
       kept = kept_refl _ _ _;
-      does = rw c.placed-in_default.ensures (does_as b a.m _ _ _ _ _ _ _ _ o c.record_abbreviated.ensures);
+      does = rw c.placed-in_default.ensures (does_as b a.m _ _ _ _ _ _ _ _ o (c.record_abbreviated.ensures p.stands));
     }
