@@ -7,7 +7,7 @@ use Rattle.bits.proofs.Laws.{limit_le}
 use Rattle.abbrev.proofs.Held.{kept_refl}
 use Rattle.walk.specs.Promises.{held}
 use Rattle.walk.proofs.Items.{completed_off, head_done, head_off}
-use Rattle.walk.proofs.Parts.{head_next, stopped, does_as, placed_ok, placed_err}
+use Rattle.walk.proofs.Parts.{head_next, stopped, does_as, placed_err}
 use Rattle.walk.proofs.Outer.{listed_as}
 use Rattle.walk.proofs.Block.enter_sub_block.Goals as goal
 
