@@ -77,14 +77,6 @@ loop-step-preserved t c =
     let a = rw c.inside-inner.ensures at c.in_ok-u-in-Into.ensures.is in
     going_behind g i.ensures.kept i.auto.ev i.auto.ops d n.ensures.kept n.auto.ev n.auto.ops a
 
-pub shape_of-ev-in_err-u-in-Into : goal.shape_of-ev-in_err-u-in-Into
-shape_of-ev-in_err-u-in-Into t c =
-    c.visit_block.auto.ev ∙ c.try_next.auto.ev ∙ c.loop-step.invariant.same_events
-
-pub shape_of-ops-in_err-u-in-Into : goal.shape_of-ops-in_err-u-in-Into
-shape_of-ops-in_err-u-in-Into t c =
-    c.visit_block.auto.ops ∙ c.try_next.auto.ops ∙ c.loop-step.invariant.same_operands
-
 pub returns-in_err-u-in-Into : goal.returns-in_err-u-in-Into
 returns-in_err-u-in-Into t c =
     let i = c.try_next in
@@ -94,28 +86,12 @@ returns-in_err-u-in-Into t c =
     let a = rw c.inside-inner.ensures at c.in_err-u-in-Into.ensures.is in
     record { kept = kept_nested g i.ensures.kept i.auto.ev i.auto.ops d n.ensures.kept; is = handed (Is _ _ _ _ _ _ _ _ _ _) _ c.from_residual-in_err-u-in-Into.ensures.1 (is_refused g i.ensures.kept i.auto.ev i.auto.ops d a) }
 
-pub shape_of-ev-in-End : goal.shape_of-ev-in-End
-shape_of-ev-in-End t c =
-    c.try_next.auto.ev ∙ c.loop-step.invariant.same_events
-
-pub shape_of-ops-in-End : goal.shape_of-ops-in-End
-shape_of-ops-in-End t c =
-    c.try_next.auto.ops ∙ c.loop-step.invariant.same_operands
-
 pub returns-in-End : goal.returns-in-End
 returns-in-End t c =
     let i = c.try_next in
     let g = c.loop-step.invariant in
     let d = rw c.in-End.is at c.in_ok-step.ensures.does in
     record { kept = kept_item g i.ensures.kept; is = is_over g i.ensures.kept d }
-
-pub shape_of-ev-in_err-step : goal.shape_of-ev-in_err-step
-shape_of-ev-in_err-step t c =
-    c.try_next.auto.ev ∙ c.loop-step.invariant.same_events
-
-pub shape_of-ops-in_err-step : goal.shape_of-ops-in_err-step
-shape_of-ops-in_err-step t c =
-    c.try_next.auto.ops ∙ c.loop-step.invariant.same_operands
 
 pub returns-in_err-step : goal.returns-in_err-step
 returns-in_err-step t c =
