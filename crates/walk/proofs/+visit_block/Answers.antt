@@ -15,11 +15,6 @@ loop-step-init t c =
     let r = c.shared_rows-many.ensures in
     going_first _ _ _ _ _ p.whole p.sits.0 p.sits.1 (picked_part _ _ _ (replicate 32 0) refl r.many r.stored)
 
-pub try_next-requires : goal.try_next-requires
-try_next-requires t c =
-    let g = c.loop-step.invariant in
-    record { whole = g.whole; stands = (g.sits, g.below) }
-
 pub loop-step-smaller-in-Go : goal.loop-step-smaller-in-Go
 loop-step-smaller-in-Go t c =
     let g = c.loop-step.invariant in
@@ -38,14 +33,6 @@ inside-inner-requires t c =
     let d = rw c.in-Into.is at c.in_ok-step.ensures.does in
     let a = c.args in
     (d.levels, omega (arith, d.fits, limit_le a.s.now a.f.end))
-
-pub visit_block-requires : goal.visit_block-requires
-visit_block-requires t c =
-    let i = c.try_next in
-    let g = c.loop-step.invariant in
-    let d = rw c.in-Into.is at c.in_ok-step.ensures.does in
-    let w = c.requires in
-    rw c.inside-inner.ensures (omega (arith, w.whole, d.levels), (whole_kept g.whole i.ensures.kept, (inner_sits g i.ensures.kept i.auto.ev i.auto.ops d, refl)))
 
 pub overflow_mul-st : goal.overflow_mul-st
 overflow_mul-st t c =
