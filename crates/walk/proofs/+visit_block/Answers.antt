@@ -1,12 +1,11 @@
 -- `walk::visit_block` meets its contract: its loop walks the items of a block as the definition does, and calls itself with one level less to go. Assumes nothing.
 use native.Mathlib.Omega.{arith}
-use mathlib.Core.Path.{◌∙◌, refl}
+use mathlib.Core.Path.{refl}
 use lib.ListN.{replicate}
 use Rattle.bits.proofs.Laws.{limit_le}
 use Rattle.bits.proofs.Steps.{handed}
 use Rattle.walk.specs.Promises.{Is}
-use Rattle.abbrev.proofs.Held.{whole_kept}
-use Rattle.walk.proofs.Visits.{going_first, going_onward, onward_less, going_behind, behind_less, is_over, is_stopped, is_refused, kept_item, kept_nested, inner_sits, picked_part}
+use Rattle.walk.proofs.Visits.{going_first, going_onward, onward_less, going_behind, behind_less, is_over, is_stopped, is_refused, kept_item, kept_nested, picked_part}
 use Rattle.walk.proofs.+visit_block.Goals as goal
 
 pub loop-step-init : goal.loop-step-init
