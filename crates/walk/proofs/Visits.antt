@@ -341,19 +341,6 @@ module _ {B : Block} {m₀ : Marks} {t₀ : Tables} {ev₀ ops₀ : List ℕ} {t
   room_here : 0 < Outer.room
   room_here = omega (arith, d.spare, g.same_events)
 
-  -- where it begins
-  pub inner_sits : Sits (length ev') (length ops') Inner u
-  inner_sits =
-      let e₁ : u.shared ≡ m.shared = ap (λ z. z.shared) d.is in
-      let e₂ : u.local ≡ m.local = ap (λ z. z.local) d.is in
-      record {
-        events = d.room.most_events;
-        operands = d.room.most_operands;
-        shared = omega (arith, g.sits.shared);
-        base = omega arith;
-        local = omega (arith, g.sits.local);
-      }
-
   -- the state that it begins in
   inner_state : start_of Inner u t' (length ev₀) (length ops₀) ≡ entered b Outer
   unfolding entered

@@ -73,7 +73,7 @@ struct Marks {
     local: usize,
 }
 
-// The block that is walked: its number and width, its end in bytes, the levels to go below it, whether it is the top level, and how many local
+// A block's frame: its number and width, its end in bytes, the levels to go below it, whether it is the top level, and how many local
 // abbreviations the blocks around it have.
 #[derive(Clone, Copy)]
 struct Frame {

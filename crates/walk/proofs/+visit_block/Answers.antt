@@ -1,11 +1,11 @@
 -- `walk::visit_block` meets its contract: its loop walks the items of a block as the definition does, and calls itself with one level less to go. Assumes nothing.
 use native.Mathlib.Omega.{arith}
-use mathlib.Core.Path.{◌∙◌, refl}
+use mathlib.Core.Path.{refl}
 use lib.ListN.{replicate}
 use Rattle.bits.proofs.Laws.{limit_le}
 use Rattle.bits.proofs.Steps.{handed}
 use Rattle.walk.specs.Promises.{Is}
-use Rattle.walk.proofs.Visits.{going_first, going_onward, onward_less, going_behind, behind_less, is_over, is_stopped, is_refused, kept_item, kept_nested, inner_sits, picked_part}
+use Rattle.walk.proofs.Visits.{going_first, going_onward, onward_less, going_behind, behind_less, is_over, is_stopped, is_refused, kept_item, kept_nested, picked_part}
 use Rattle.walk.proofs.+visit_block.Goals as goal
 
 pub loop-step-init : goal.loop-step-init
@@ -13,11 +13,6 @@ loop-step-init t c =
     let p = c.requires in
     let r = c.shared_rows-many.ensures in
     going_first _ _ _ _ _ (record { kinds = omega arith; widths = omega arith; shapes = omega arith; owners = omega arith }) p.sits.0 p.sits.1 (picked_part _ _ _ (replicate 32 0) refl r.many r.stored)
-
-pub try_next-requires : goal.try_next-requires
-try_next-requires t c =
-    let g = c.loop-step.invariant in
-    record { stands = (g.sits, g.below) }
 
 pub loop-step-smaller-in-Go : goal.loop-step-smaller-in-Go
 loop-step-smaller-in-Go t c =
@@ -37,13 +32,6 @@ inside-inner-requires t c =
     let d = rw c.in-Into.is at c.in_ok-step.ensures.does in
     let a = c.args in
     (d.levels, omega (arith, d.fits, limit_le a.s.now a.f.end))
-
-pub visit_block-requires : goal.visit_block-requires
-visit_block-requires t c =
-    let i = c.try_next in
-    let g = c.loop-step.invariant in
-    let d = rw c.in-Into.is at c.in_ok-step.ensures.does in
-    rw c.inside-inner.ensures (omega (arith, d.levels), (inner_sits g i.ensures.kept i.auto.ev i.auto.ops d, refl))
 
 pub overflow_mul-st : goal.overflow_mul-st
 overflow_mul-st t c =
@@ -75,14 +63,6 @@ loop-step-preserved t c =
     let a = rw c.inside-inner.ensures at c.in_ok-u-in-Into.ensures.is in
     going_behind g i.ensures.kept i.auto.ev i.auto.ops d n.ensures.kept n.auto.ev n.auto.ops a
 
-pub shape_of-ev-in_err-u-in-Into : goal.shape_of-ev-in_err-u-in-Into
-shape_of-ev-in_err-u-in-Into t c =
-    c.visit_block.auto.ev ∙ c.try_next.auto.ev ∙ c.loop-step.invariant.same_events
-
-pub shape_of-ops-in_err-u-in-Into : goal.shape_of-ops-in_err-u-in-Into
-shape_of-ops-in_err-u-in-Into t c =
-    c.visit_block.auto.ops ∙ c.try_next.auto.ops ∙ c.loop-step.invariant.same_operands
-
 pub returns-in_err-u-in-Into : goal.returns-in_err-u-in-Into
 returns-in_err-u-in-Into t c =
     let i = c.try_next in
@@ -92,28 +72,12 @@ returns-in_err-u-in-Into t c =
     let a = rw c.inside-inner.ensures at c.in_err-u-in-Into.ensures.is in
     record { kept = kept_nested g i.ensures.kept i.auto.ev i.auto.ops d n.ensures.kept; is = handed (Is _ _ _ _ _ _ _ _ _ _) _ c.from_residual-in_err-u-in-Into.ensures.1 (is_refused g i.ensures.kept i.auto.ev i.auto.ops d a) }
 
-pub shape_of-ev-in-End : goal.shape_of-ev-in-End
-shape_of-ev-in-End t c =
-    c.try_next.auto.ev ∙ c.loop-step.invariant.same_events
-
-pub shape_of-ops-in-End : goal.shape_of-ops-in-End
-shape_of-ops-in-End t c =
-    c.try_next.auto.ops ∙ c.loop-step.invariant.same_operands
-
 pub returns-in-End : goal.returns-in-End
 returns-in-End t c =
     let i = c.try_next in
     let g = c.loop-step.invariant in
     let d = rw c.in-End.is at c.in_ok-step.ensures.does in
     record { kept = kept_item g i.ensures.kept; is = is_over g i.ensures.kept d }
-
-pub shape_of-ev-in_err-step : goal.shape_of-ev-in_err-step
-shape_of-ev-in_err-step t c =
-    c.try_next.auto.ev ∙ c.loop-step.invariant.same_events
-
-pub shape_of-ops-in_err-step : goal.shape_of-ops-in_err-step
-shape_of-ops-in_err-step t c =
-    c.try_next.auto.ops ∙ c.loop-step.invariant.same_operands
 
 pub returns-in_err-step : goal.returns-in_err-step
 returns-in_err-step t c =

@@ -34,13 +34,6 @@ returns-in-0 c =
     let l = none_loads _ (a.shape / row_size) _ (n - 1) (fill + (n - 1)) _ ops1 c.in-0.is h in
     load_told (length ops - fill) a.tables.now.kinds a.tables.now.widths a.base a.shape fill ys ops ops1 (Ok (_, _)) c.requires.1 z.0 z.1 l
 
-pub read_array-requires : goal.read_array-requires
-read_array-requires c =
-    let ops = c.args.operands.now in
-    let e = mid_len c.args.fill (length ops) ops (omega arith) in
-    let z = rw e at c.in_ok-code.ensures in
-    omega (arith, c.requires.1, e, z.1)
-
 pub returns-in-1 : goal.returns-in-1
 returns-in-1 c =
     let a = c.args in

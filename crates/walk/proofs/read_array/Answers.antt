@@ -9,14 +9,6 @@ use Rattle.walk.proofs.Stores.{take_put_front}
 use Rattle.walk.proofs.Records.{array_loads}
 use Rattle.walk.proofs.read_array.Goals as goal
 
-pub overflow_add-read : goal.overflow_add-read
-overflow_add-read c =
-    let a = c.args in
-    let ops = a.operands.now in
-    let e = mid_len a.r.fill (length ops) ops (omega arith) in
-    let z = rw e at c.in_ok-end.ensures in
-    record { fits = omega (arith, e, z.1) }
-
 pub returns-in_err-length : goal.returns-in_err-length
 unfolding load
 returns-in_err-length c = handed (Loaded _ _ _ _ _ _) _ c.from_residual.ensures.1 (off _ c.in_err-length.ensures)

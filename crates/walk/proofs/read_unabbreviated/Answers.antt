@@ -10,14 +10,6 @@ use Rattle.walk.proofs.Stores.{take_put_front}
 use Rattle.walk.proofs.Records.{plain_reads}
 use Rattle.walk.proofs.read_unabbreviated.Goals as goal
 
-pub overflow_add-r : goal.overflow_add-r
-overflow_add-r c =
-    let a = c.args in
-    let ops = a.operands.now in
-    let e = mid_len a.fill (length ops) ops (omega arith) in
-    let z = rw e at c.in_ok-end.ensures in
-    record { fits = omega (arith, c.well_formed.1.1.0, e, z.1) }
-
 pub returns-in_err-code : goal.returns-in_err-code
 unfolding plain unabbreviated
 returns-in_err-code c = handed (Recorded _ _ _ _ _ _) _ c.from_residual.ensures.1 (off _ (off _ c.in_err-code.ensures))

@@ -12,12 +12,6 @@ returns-then-input-gt-MAX_INPUT c =
     let z = meets_denied a.input.now a.skip.now _ _ r.result refl refl r.ensures o c.deny.ensures in
     record { answer = z.0; events = z.1.0; operands = z.1.1 }
 
-pub accept-requires : goal.accept-requires
-accept-requires c =
-    let w = c.walk_stream in
-    let z = rw c.in-Ok-walk_stream.is at w.ensures in
-    (z.most_events, z.most_operands)
-
 pub returns-in-Err : goal.returns-in-Err
 returns-in-Err c =
     let a = c.args in

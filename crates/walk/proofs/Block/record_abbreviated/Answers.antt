@@ -64,9 +64,6 @@ returns-in_err-r c =
     (told_off b a.m t a.events.now a.operands.now p.stands.0 a.d _
     (use_found b a.m t a.events.now a.operands.now p.stands.0 a.d a.n p.stands.2 w.0) p.stands.1 c.in_err-r.ensures)
 
-pub tell_record-requires : goal.tell_record-requires
-tell_record-requires c = c.requires.stands.0.0.events
-
 pub returns : goal.returns
 unfolding row_of
 returns c =

@@ -1,5 +1,4 @@
 -- `walk::Block::try_next` meets its contract: the end of the bits, or a number and what it says. Assumes nothing.
-use native.Mathlib.Omega.{arith}
 use mathlib.Core.Path.{sym, ap, ◌∙◌}
 use lib.ListN.{length}
 use borrow.Author.Tests.{leb-true, leb-false}
@@ -9,7 +8,7 @@ use Rattle.bits.specs.Bits.{limit, ends_at}
 use Rattle.abbrev.proofs.Held.{kept_refl}
 use Rattle.walk.specs.Promises.{numbered_of, held}
 use Rattle.walk.proofs.Items.{completed_off, open_off}
-use Rattle.walk.proofs.Parts.{next_is, stopped, does_as, placed_ok, placed_err}
+use Rattle.walk.proofs.Parts.{next_is, stopped, does_as, placed_err}
 use Rattle.walk.proofs.Block.try_next.Goals as goal
 
 pub returns-then-is_at_end : goal.returns-then-is_at_end
@@ -44,46 +43,6 @@ returns-in_err-n c =
 pub end_of-requires : goal.end_of-requires
 unfolding ends_at
 end_of-requires c = leb-true _ _ (sym c.is_at_end.ensures ∙ c.if-is_at_end.true)
-
-pub leave-requires : goal.leave-requires
-leave-requires c =
-    let a = c.args in
-    let b = a.self.now in
-    let p = c.requires in
-    let x = rw (placed_ok _ _ (sym c.placed-2.ensures ∙ c.in_ok-n.was)) at c.read_number.ensures in
-    (p.stands.0.events, x.ends)
-
-pub enter_sub_block-requires : goal.enter_sub_block-requires
-enter_sub_block-requires c =
-    let a = c.args in
-    let b = a.self.now in
-    let p = c.requires in
-    let x = rw (placed_ok _ _ (sym c.placed-2.ensures ∙ c.in_ok-n.was)) at c.read_number.ensures in
-    record { in_range = (p.stands.0.events, p.stands.0.shared, p.stands.0.local, x.ends) }
-
-pub define_local-requires : goal.define_local-requires
-define_local-requires c =
-    let a = c.args in
-    let b = a.self.now in
-    let p = c.requires in
-    let x = rw (placed_ok _ _ (sym c.placed-2.ensures ∙ c.in_ok-n.was)) at c.read_number.ensures in
-    record { in_range = (p.stands.0.shared, p.stands.0.local, x.ends) }
-
-pub record_plain-requires : goal.record_plain-requires
-record_plain-requires c =
-    let a = c.args in
-    let b = a.self.now in
-    let p = c.requires in
-    let x = rw (placed_ok _ _ (sym c.placed-2.ensures ∙ c.in_ok-n.was)) at c.read_number.ensures in
-    (p.stands, x.ends)
-
-pub record_abbreviated-requires : goal.record_abbreviated-requires
-record_abbreviated-requires c =
-    let a = c.args in
-    let b = a.self.now in
-    let p = c.requires in
-    let x = rw (placed_ok _ _ (sym c.placed-2.ensures ∙ c.in_ok-n.was)) at c.read_number.ensures in
-    record { stands = (p.stands, x.ends, omega arith) }
 
 pub returns-in-0 : goal.returns-in-0
 returns-in-0 c =
