@@ -6,4 +6,3 @@ pub mod Parts
 pub mod Once
 pub mod Lengths
 pub mod Pages
-pub mod Left
