@@ -25,7 +25,7 @@ mod scan;
 
 use hold::held;
 use scan::{Question, question_on};
-use text::feed::{each_line, zeros};
+use text::feed::{Line, zeros};
 use text::front;
 use text::page::Page;
 use text::scan::{MOST_SKIPS, is_asking};
@@ -67,55 +67,69 @@ impl Tally<'_> {
         }
     }
 
-    // Holds the answer of the list on a line against ours.
-    fn judge(&mut self, line: &[u8], q: Question) {
-        let mut ours = zeros::<OURS>();
-        let mut events = [0u64; STORE];
-        let mut operands = [0u64; STORE];
-        let h = held(
-            q.answer,
-            &mut ours,
-            q.input,
-            q.skip,
-            &mut events,
-            &mut operands,
-        );
-        self.count(h.same);
-        if !h.same {
-            self.put_line(line);
-            self.page.bytes(b"  ours ");
-            self.put_line(front(&ours, h.fill));
-        }
-    }
-
-    // A line that is neither empty nor a comment.
-    fn ask(&mut self, line: &[u8]) {
-        let mut list = [0u64; MOST_SKIPS];
-        let mut bytes = [0u8; INPUT];
-        match question_on(line, &mut list, &mut bytes) {
-            Some(q) => self.judge(line, q),
-            None => {
-                self.put_line(line);
-                self.page.bytes(b"  ?\n");
-            }
-        }
-    }
-
-    // A line of the list.
-    fn take(&mut self, line: &[u8]) {
-        if is_asking(line) {
-            self.ask(line);
-        } else {
-            self.put_line(line);
-        }
-    }
-
     // The last line.
     fn put_total(&mut self) {
         self.page.decimal(self.answers);
         self.page.named(b" answers, ", self.same);
         self.page.bytes(b" the same\n");
     }
+}
+
+// Holds the answer of the list on a line against ours.
+fn judge(t: &mut Tally, line: &[u8], q: Question) {
+    let mut ours = zeros::<OURS>();
+    let mut events = [0u64; STORE];
+    let mut operands = [0u64; STORE];
+    let h = held(
+        q.answer,
+        &mut ours,
+        q.input,
+        q.skip,
+        &mut events,
+        &mut operands,
+    );
+    t.count(h.same);
+    if !h.same {
+        t.put_line(line);
+        t.page.bytes(b"  ours ");
+        t.put_line(front(&ours, h.fill));
+    }
+}
+
+// A line that is neither empty nor a comment.
+fn ask(t: &mut Tally, line: &[u8]) {
+    let mut list = [0u64; MOST_SKIPS];
+    let mut bytes = [0u8; INPUT];
+    match question_on(line, &mut list, &mut bytes) {
+        Some(q) => judge(t, line, q),
+        None => {
+            t.put_line(line);
+            t.page.bytes(b"  ?\n");
+        }
+    }
+}
+
+// A line of the list.
+fn take_line(t: &mut Tally, line: &[u8]) {
+    if is_asking(line) {
+        ask(t, line);
+    } else {
+        t.put_line(line);
+    }
+}
+
+// Takes every line of the list; room is made behind each, so that the last line of the output has it too.
+fn take_all(t: &mut Tally, text: &mut [u8]) {
+    let mut next = Line::first(text);
+    while let Some(line) = next {
+        let a = line.start;
+        let e = line.end;
+        take_line(t, &text[a..e]);
+        t.page.make_room(MOST);
+        next = line.behind(text);
+    }
+    t.put_total();
+    t.page.flush();
 }
 
 fn main() {
@@ -126,11 +140,5 @@ fn main() {
         answers: 0,
         same: 0,
     };
-    // Room is made behind each line, so that the last line of the output has it too.
-    each_line(&mut text, |line| {
-        tally.take(line);
-        tally.page.make_room(MOST);
-    });
-    tally.put_total();
-    tally.page.flush();
+    take_all(&mut tally, &mut text);
 }

@@ -6,3 +6,4 @@ pub mod Parts
 pub mod Once
 pub mod Lengths
 pub mod Pages
+pub mod Left

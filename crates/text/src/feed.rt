@@ -102,18 +102,6 @@ impl Line {
     }
 }
 
-// Calls a closure at each line of the input, without its line end; the text is what the input is read into. No clause can name the lines of input that is
-// not read yet: so the contract only says what a call needs, and what is proved is that each call is safe and that the lines end.
-pub fn each_line<F: FnMut(&[u8])>(text: &mut [u8], mut take: F)
-    requires { F.IsAlwaysCallable take }
-{
-    let mut next = Line::first(text);
-    while let Some(line) = next {
-        take(&text[line.start..line.end]);
-        next = line.behind(text);
-    }
-}
-
 // Writes out what is in use of a buffer, and tells what is in use then: nothing.
 pub fn flush(out: &[u8], fill: usize) -> usize
     ensures { result ≡ 0 }

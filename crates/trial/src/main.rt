@@ -32,7 +32,7 @@ ghost use Rattle.std.specs.Prelude.{◌≤◌};
 use judge::put_exchange;
 use scan::{Question, question_on};
 use side::{Outcome, Stores};
-use text::feed::{each_line, zeros};
+use text::feed::{Line, zeros};
 use text::page::Page;
 use text::scan::{MOST_SKIPS, is_asking};
 use walk::Walked;
@@ -76,13 +76,22 @@ fn put_line(page: &mut Page<'_>, line: &[u8]) {
     }
 }
 
+// Answers every line of the input.
+fn answer_all(text: &mut [u8], page: &mut Page<'_>) {
+    let mut next = Line::first(text);
+    while let Some(line) = next {
+        let a = line.start;
+        let e = line.end;
+        page.make_room(MOST);
+        put_line(page, &text[a..e]);
+        next = line.behind(text);
+    }
+    page.flush();
+}
+
 fn main() {
     let mut text = io::large_buffer();
     let mut out = zeros::<ROOM>();
     let mut page = Page::new(&mut out, 0);
-    each_line(&mut text, |line| {
-        page.make_room(MOST);
-        put_line(&mut page, line);
-    });
-    page.flush();
+    answer_all(&mut text, &mut page);
 }
