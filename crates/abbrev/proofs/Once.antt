@@ -12,7 +12,7 @@ use Rattle.terms.proofs.Once.{reason_of, reason_back}
 use Rattle.bits.specs.Reader.{Reader}
 use Rattle.bits.specs.Told.{Told, told, refuses, Gives, of_read}
 use Rattle.bits.specs.declared.Cursor.{Cursor}
-use Rattle.bits.proofs.Once.{gives_once, told_once, read_back, same_once}
+use Rattle.bits.proofs.Once.{gives_once, told_once, because, read_back, same_once}
 use Rattle.bits.proofs.Steps.{never, got_value}
 use Rattle.bitcode.specs.declared.ScalarOperand.{ScalarOperand}
 use Rattle.abbrev.specs.Abbrev.{Abbrev, number_of}
@@ -40,7 +40,7 @@ pub scalar_operand_once : (kind width : ℕ) (r r' : ScalarOperand) → r ≡ sc
 scalar_operand_once kind width r r' x y = same_once x y
 
 pub read_number_once : (c : Cursor) (s : List ℕ) (w : ℕ) (r r' : Result (ℕ × Cursor) Reason) → Gives c s (number_of w) (of_read r) → Gives c s (number_of w) (of_read r') → r ≡ r'
-read_number_once c s w = told_once of_read (λ v d. (v, d)) read_back c s (number_of w)
+read_number_once c s w = told_once of_read (λ v d. Ok (v, d)) because read_back c s (number_of w)
 
 pub look_up_once : (own : List ℕ) (base local block number : ℕ) (r r' : Result ℕ Reason) → r ≡ of_row block number (row_at own base local number) → r' ≡ of_row block number (row_at own base local number) → r ≡ r'
 look_up_once own base local block number r r' x y = same_once x y

@@ -7,7 +7,7 @@ use Prim.Native.Nat.{ℕ, ◌+◌, min}
 use Rattle.bits.specs.Told.{Gives, of_read}
 use Rattle.bits.specs.declared.Cursor.{Cursor}
 use Rattle.terms.proofs.Once.{reason_back}
-use Rattle.bits.proofs.Once.{from_told, told_once, read_back, same_once}
+use Rattle.bits.proofs.Once.{from_told, told_once, because, read_back, same_once}
 use Rattle.bitcode.specs.Scalar.{value}
 use Rattle.bitcode.specs.Header.{signature, parsed, stream, bytes_of, blob_of}
 use Rattle.bitcode.specs.Operands.{next, next_below, next_bool, next_signed, next_range, place_of, of_next}
@@ -20,11 +20,11 @@ use Rattle.bitcode.specs.declared.Range.{Range}
 -- ---- a letter, and a scalar operand
 pub read_char6_once : (c : Cursor) (s : List ℕ) (r r' : Result (ℕ × Cursor) Reason)
     → Gives c s (value Char6) (of_read r) → Gives c s (value Char6) (of_read r') → r ≡ r'
-read_char6_once c s = told_once of_read (λ v d. (v, d)) read_back c s (value Char6)
+read_char6_once c s = told_once of_read (λ v d. Ok (v, d)) because read_back c s (value Char6)
 
 pub read_scalar_operand_once : (c : Cursor) (s : List ℕ) (o : ScalarOperand) (r r' : Result (ℕ × Cursor) Reason)
     → Gives c s (value o) (of_read r) → Gives c s (value o) (of_read r') → r ≡ r'
-read_scalar_operand_once c s o = told_once of_read (λ v d. (v, d)) read_back c s (value o)
+read_scalar_operand_once c s o = told_once of_read (λ v d. Ok (v, d)) because read_back c s (value o)
 
 -- ---- the header, the stream and a blob: the contract is one equation. A part of the input is told by its bytes
 module _ (bs : List ℕ) where
@@ -56,28 +56,28 @@ new_once first count r r' x y = operands_same (x.0 ∙ sym y.0) (x.1 ∙ sym y.1
 abbrev rest : Cursor → Operands
 rest d = record { at = d.at; end = d.end }
 
-next_back : {A : Type 0} (r : Result (A × Operands) Reason) → from_told (λ v d. (v, rest d)) (of_next r) ≡ r
+next_back : {A : Type 0} (r : Result (A × Operands) Reason) → from_told (λ v d. Ok (v, rest d)) because (of_next r) ≡ r
 next_back (Ok (v, d)) = refl
 next_back (Err r) = ap Err (reason_back r)
 
 module _ (o : Operands) (s : List ℕ) where
   pub u8_once : (r r' : Result (ℕ × Operands) Reason) → Gives (place_of o) s (next_below 8) (of_next r) → Gives (place_of o) s (next_below 8) (of_next r') → r ≡ r'
-  u8_once = told_once of_next (λ v d. (v, rest d)) next_back (place_of o) s (next_below 8)
+  u8_once = told_once of_next (λ v d. Ok (v, rest d)) because next_back (place_of o) s (next_below 8)
 
   pub u16_once : (r r' : Result (ℕ × Operands) Reason) → Gives (place_of o) s (next_below 16) (of_next r) → Gives (place_of o) s (next_below 16) (of_next r') → r ≡ r'
-  u16_once = told_once of_next (λ v d. (v, rest d)) next_back (place_of o) s (next_below 16)
+  u16_once = told_once of_next (λ v d. Ok (v, rest d)) because next_back (place_of o) s (next_below 16)
 
   pub u32_once : (r r' : Result (ℕ × Operands) Reason) → Gives (place_of o) s (next_below 32) (of_next r) → Gives (place_of o) s (next_below 32) (of_next r') → r ≡ r'
-  u32_once = told_once of_next (λ v d. (v, rest d)) next_back (place_of o) s (next_below 32)
+  u32_once = told_once of_next (λ v d. Ok (v, rest d)) because next_back (place_of o) s (next_below 32)
 
   pub u64_once : (r r' : Result (ℕ × Operands) Reason) → Gives (place_of o) s next (of_next r) → Gives (place_of o) s next (of_next r') → r ≡ r'
-  u64_once = told_once of_next (λ v d. (v, rest d)) next_back (place_of o) s next
+  u64_once = told_once of_next (λ v d. Ok (v, rest d)) because next_back (place_of o) s next
 
   pub bool_once : (r r' : Result (Bool × Operands) Reason) → Gives (place_of o) s next_bool (of_next r) → Gives (place_of o) s next_bool (of_next r') → r ≡ r'
-  bool_once = told_once of_next (λ v d. (v, rest d)) next_back (place_of o) s next_bool
+  bool_once = told_once of_next (λ v d. Ok (v, rest d)) because next_back (place_of o) s next_bool
 
   pub i64_once : (r r' : Result (ℤ × Operands) Reason) → Gives (place_of o) s next_signed (of_next r) → Gives (place_of o) s next_signed (of_next r') → r ≡ r'
-  i64_once = told_once of_next (λ v d. (v, rest d)) next_back (place_of o) s next_signed
+  i64_once = told_once of_next (λ v d. Ok (v, rest d)) because next_back (place_of o) s next_signed
 
   pub range_once : (r r' : Result (Range × Operands) Reason) → Gives (place_of o) s next_range (of_next r) → Gives (place_of o) s next_range (of_next r') → r ≡ r'
-  range_once = told_once of_next (λ v d. (v, rest d)) next_back (place_of o) s next_range
+  range_once = told_once of_next (λ v d. Ok (v, rest d)) because next_back (place_of o) s next_range

@@ -28,44 +28,48 @@ gives_once c s m (told a d) (refuses r) x y = absurd (never (sym y.why ∙ x.giv
 gives_once c s m (refuses r) (told b g) x y = absurd (never (sym x.why ∙ y.gives))
 gives_once c s m (refuses r) (refuses q) x y = let z = sym x.why ∙ y.why in cc
 
--- an answer of the code, had back from what it tells
-abbrev pub from_told : {A E : Type 0} → (A → Cursor → E) → Told No A → Result E Reason
-from_told some (told a d) = Ok (some a d)
-from_told some (refuses x) = Err (reason_of x)
+-- an answer of the code, had back from what it tells by its two constructors
+abbrev pub from_told : {A E : Type 0} → (A → Cursor → E) → (No → E) → Told No A → E
+from_told some none (told a d) = some a d
+from_told some none (refuses x) = none x
 
 -- so it is told once, for every answer that can be had back
-module _ {A E : Type 0} (of : Result E Reason → Told No A) (some : A → Cursor → E) (back : (r : Result E Reason) → from_told some (of r) ≡ r) where
-  pub told_once : (c : Cursor) (s : List ℕ) (m : Reader No A) (r r' : Result E Reason) → Gives c s m (of r) → Gives c s m (of r') → r ≡ r'
-  told_once c s m r r' x y = sym (back r) ∙ ap (from_told some) (gives_once c s m (of r) (of r') x y) ∙ back r'
+module _ {A E : Type 0} (of : E → Told No A) (some : A → Cursor → E) (none : No → E) (back : (r : E) → from_told some none (of r) ≡ r) where
+  pub told_once : (c : Cursor) (s : List ℕ) (m : Reader No A) (r r' : E) → Gives c s m (of r) → Gives c s m (of r') → r ≡ r'
+  told_once c s m r r' x y = sym (back r) ∙ ap (from_told some none) (gives_once c s m (of r) (of r') x y) ∙ back r'
+
+-- a refusal, had back as an answer
+abbrev pub because : {A : Type 0} → No → Result A Reason
+because x = Err (reason_of x)
 
 -- ---- calls that tell what a reader gives
-pub read_back : {A : Type 0} (r : Result (A × Cursor) Reason) → from_told (λ v d. (v, d)) (of_read r) ≡ r
+pub read_back : {A : Type 0} (r : Result (A × Cursor) Reason) → from_told (λ v d. Ok (v, d)) because (of_read r) ≡ r
 read_back (Ok (v, d)) = refl
 read_back (Err r) = ap Err (reason_back r)
 
-peek_back : (c : Cursor) (r : Result ℕ Reason) → from_told (λ v d. v) (of_peek c r) ≡ r
+peek_back : (c : Cursor) (r : Result ℕ Reason) → from_told (λ v d. Ok v) because (of_peek c r) ≡ r
 peek_back c (Ok v) = refl
 peek_back c (Err r) = ap Err (reason_back r)
 
-move_back : (r : Result Cursor Reason) → from_told (λ u d. d) (of_move r) ≡ r
+move_back : (r : Result Cursor Reason) → from_told (λ u d. Ok d) because (of_move r) ≡ r
 move_back (Ok d) = refl
 move_back (Err r) = ap Err (reason_back r)
 
 module _ (c : Cursor) (s : List ℕ) where
   pub read_once : (n : ℕ) (r r' : Result (ℕ × Cursor) Reason) → Gives c s (read n) (of_read r) → Gives c s (read n) (of_read r') → r ≡ r'
-  read_once n r r' x y = told_once of_read (λ v d. (v, d)) read_back c s (read n) r r' x y
+  read_once n r r' x y = told_once of_read (λ v d. Ok (v, d)) because read_back c s (read n) r r' x y
 
   pub read_vbr_once : (w : ℕ) (r r' : Result (ℕ × Cursor) Reason) → Gives c s (vbr w) (of_read r) → Gives c s (vbr w) (of_read r') → r ≡ r'
-  read_vbr_once w r r' x y = told_once of_read (λ v d. (v, d)) read_back c s (vbr w) r r' x y
+  read_vbr_once w r r' x y = told_once of_read (λ v d. Ok (v, d)) because read_back c s (vbr w) r r' x y
 
   pub peek_once : (n : ℕ) (r r' : Result ℕ Reason) → Gives c s (peek n) (of_peek c r) → Gives c s (peek n) (of_peek c r') → r ≡ r'
-  peek_once n r r' x y = told_once (of_peek c) (λ v d. v) (peek_back c) c s (peek n) r r' x y
+  peek_once n r r' x y = told_once (of_peek c) (λ v d. Ok v) because (peek_back c) c s (peek n) r r' x y
 
   pub align32_once : (r r' : Result Cursor Reason) → Gives c s align (of_move r) → Gives c s align (of_move r') → r ≡ r'
-  align32_once r r' x y = told_once of_move (λ u d. d) move_back c s align r r' x y
+  align32_once r r' x y = told_once of_move (λ u d. Ok d) because move_back c s align r r' x y
 
   pub skip_bytes_once : (n : ℕ) (r r' : Result Cursor Reason) → Gives c s (skip n) (of_move r) → Gives c s (skip n) (of_move r') → r ≡ r'
-  skip_bytes_once n r r' x y = told_once of_move (λ u d. d) move_back c s (skip n) r r' x y
+  skip_bytes_once n r r' x y = told_once of_move (λ u d. Ok d) because move_back c s (skip n) r r' x y
 
   -- the part's own cursor is told by its end, and begins where c stands
   pub take_slice_once : (n : ℕ) (r r' : Result (Cursor × Cursor) Reason) → Parts c s n r → Parts c s n r' → r ≡ r'
