@@ -11,9 +11,6 @@ returns-then-k-n-le8 t c =
     let a = c.args in
     from_byte a.s.now a.p a.n (c.from.ensures ∙ c.byte_at.ensures) c.low.ensures c.if-k-n-le8.true
 
-pub field_far-rest-requires : goal.field_far-rest-requires
-field_far-rest-requires t c = omega arith
-
 pub returns : goal.returns
 returns t c =
     let s = c.args.s.now in

@@ -12,11 +12,5 @@ returns-then-bits-n c = read_short _ _ _ _ (omega arith) (omega arith) (omega ar
 pub returns-then-bits-n-2 : goal.returns-then-bits-n-2
 returns-then-bits-n-2 c = read_short _ _ _ _ (omega arith) (omega arith) (omega arith)
 
-pub field_at-requires : goal.field_at-requires
-field_at-requires c = omega arith
-
-pub overflow_add-result : goal.overflow_add-result
-overflow_add-result c = omega arith
-
 pub returns : goal.returns
 returns c = read_value _ _ _ _ c.field_at.ensures (omega arith) (omega arith) (omega arith)

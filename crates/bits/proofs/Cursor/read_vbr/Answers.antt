@@ -1,9 +1,7 @@
 -- `bits::Cursor::read_vbr` meets its contract: what is left, with the sum in hand, gives the whole number, and each chunk leaves fewer bits. Assumes nothing.
 use Rattle.bits.proofs.Vbr.{going_start, going_refused, going_over, going_last, going_more, vbr_outside, sum_fits, read_ahead, ahead_less}
 use borrow.Author.Rules.{rules}
-use lib.Pow.{pow_pos}
 use native.Mathlib.Omega.{arith}
-use Prim.Native.Nat.{◌-◌}
 use Rattle.bits.proofs.Cursor.read_vbr.Goals as goal
 
 pub returns-then-w-lt1 : goal.returns-then-w-lt1
@@ -11,9 +9,6 @@ returns-then-w-lt1 c = vbr_outside _ _ _ _ (λ h k. omega arith)
 
 pub loop-e-init : goal.loop-e-init
 loop-e-init c = going_start _ _ _ (omega arith) (omega arith)
-
-pub nonzero_rem-sum : goal.nonzero_rem-sum
-nonzero_rem-sum c = omega (arith, pow_pos (c.args.w - 1))
 
 pub overflow_add-sum : goal.overflow_add-sum
 overflow_add-sum c = search (sum_fits, rules)
