@@ -1,3 +1,4 @@
+pub mod Front
 pub mod Parts
 pub mod Typed
 pub mod Once

@@ -37,7 +37,9 @@ fn put_front(from: &[u64], to: &mut [u64])
     ensures { to.new ≡ over from.now to.old }
 {
     let n = from.len().min(to.len());
-    to[..n].copy_from_slice(&from[..n]);
+    for i in 0..n {
+        to[i] = from[i];
+    }
 }
 
 // The walk of an input, with the numbers of the blocks to skip and three stores lent. The third is for what the walk returned, as many numbers as fit

@@ -75,33 +75,38 @@ impl Tally<'_> {
     }
 }
 
+// What every question is lent: the room for our answer, and the walk's two stores.
+#[derive(Drop)]
+struct Lent<'a> {
+    ours: &'a mut [u8],
+    events: &'a mut [u64],
+    operands: &'a mut [u64],
+}
+
 // Holds the answer of the list on a line against ours.
-fn judge(t: &mut Tally, line: &[u8], q: Question) {
-    let mut ours = zeros::<OURS>();
-    let mut events = [0u64; STORE];
-    let mut operands = [0u64; STORE];
+fn judge(t: &mut Tally, lent: &mut Lent, line: &[u8], q: Question) {
     let h = held(
         q.answer,
-        &mut ours,
+        lent.ours,
         q.input,
         q.skip,
-        &mut events,
-        &mut operands,
+        lent.events,
+        lent.operands,
     );
     t.count(h.same);
     if !h.same {
         t.put_line(line);
         t.page.bytes(b"  ours ");
-        t.put_line(front(&ours, h.fill));
+        t.put_line(front(lent.ours, h.fill));
     }
 }
 
 // A line that is neither empty nor a comment.
-fn ask(t: &mut Tally, line: &[u8]) {
+fn ask(t: &mut Tally, lent: &mut Lent, line: &[u8]) {
     let mut list = [0u64; MOST_SKIPS];
     let mut bytes = [0u8; INPUT];
     match question_on(line, &mut list, &mut bytes) {
-        Some(q) => judge(t, line, q),
+        Some(q) => judge(t, lent, line, q),
         None => {
             t.put_line(line);
             t.page.bytes(b"  ?\n");
@@ -110,21 +115,21 @@ fn ask(t: &mut Tally, line: &[u8]) {
 }
 
 // A line of the list.
-fn take_line(t: &mut Tally, line: &[u8]) {
+fn take_line(t: &mut Tally, lent: &mut Lent, line: &[u8]) {
     if is_asking(line) {
-        ask(t, line);
+        ask(t, lent, line);
     } else {
         t.put_line(line);
     }
 }
 
 // Takes every line of the list; room is made behind each, so that the last line of the output has it too.
-fn take_all(t: &mut Tally, text: &mut [u8]) {
+fn take_all(t: &mut Tally, lent: &mut Lent, text: &mut [u8]) {
     let mut next = Line::first(text);
     while let Some(line) = next {
         let a = line.start;
         let e = line.end;
-        take_line(t, &text[a..e]);
+        take_line(t, lent, &text[a..e]);
         t.page.make_room(MOST);
         next = line.behind(text);
     }
@@ -140,5 +145,10 @@ fn main() {
         answers: 0,
         same: 0,
     };
-    take_all(&mut tally, &mut text);
+    let mut lent = Lent {
+        ours: &mut zeros::<OURS>(),
+        events: &mut [0; STORE],
+        operands: &mut [0; STORE],
+    };
+    take_all(&mut tally, &mut lent, &mut text);
 }

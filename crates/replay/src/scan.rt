@@ -1,5 +1,5 @@
 // A line of the list, taken apart: `SKIPS BYTES ANSWER`, one space between.
-use text::scan::{hex, skips};
+use text::scan::{behind_word, find_behind, hex, skips, word};
 
 // The block numbers to skip, the input, and the answer that the list has.
 #[derive(Clone, Copy)]
@@ -15,11 +15,11 @@ pub fn question_on<'a>(
     list: &'a mut [u64],
     bytes: &'a mut [u8],
 ) -> Option<Question<'a>> {
-    let mut words = line.splitn(3, |letter| *letter == b' ');
+    let first = word(line);
     let question = Question {
-        skip: skips(words.next()?, list)?,
-        input: hex(words.next()?, bytes)?,
-        answer: words.next()?,
+        skip: skips(first, list)?,
+        input: hex(word(behind_word(line)), bytes)?,
+        answer: line.get(find_behind(line, first.len(), b' ') + 1..)?,
     };
     if question.answer.is_empty() {
         return None;

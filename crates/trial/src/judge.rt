@@ -39,24 +39,50 @@ fn compared(p: Places, was: Side<'_>, is: Side<'_>) -> Result<Plan, Fault> {
     Ok(plan)
 }
 
-// Walks an input and the exchanged input, each as the question says, and compares them.
-fn judged(p: Places, q: Question<'_>, other: &[u8]) -> Result<Plan, Fault> {
-    let mut stores = Stores::new();
-    let was = Side::of(q.input, q, &mut stores).map_err(Fault::Was)?;
-    let mut other_stores = Stores::new();
-    let is = Side::of(other, q, &mut other_stores).map_err(Fault::Is)?;
+// Walks an input and the exchanged input, each as the question says, and compares them. The stores for the exchanged input hold before what no walk is to
+// leave behind, those for the input what earlier walks left.
+fn judged(
+    p: Places,
+    q: Question<'_>,
+    other: &[u8],
+    stores: &mut Stores,
+    others: &mut Stores,
+) -> Result<Plan, Fault> {
+    let was = Side::of(q.input, q, stores).map_err(Fault::Was)?;
+    others.stain(q);
+    let is = Side::of(other, q, others).map_err(Fault::Is)?;
     compared(p, was, is)
 }
 
-// What the exchange that some words ask for does, and None where they ask for none or the input has no such places.
-fn asked(words: &[u8]) -> Option<Result<Plan, Fault>> {
+// What the exchange at these places does, if the input has such places.
+fn placed(
+    p: Places,
+    q: Question<'_>,
+    stores: &mut Stores,
+    others: &mut Stores,
+) -> Option<Result<Plan, Fault>> {
+    let mut room = io::buffer();
+    let other = exchange_into(q.input, p, &mut room)?;
+    Some(judged(p, q, other, stores, others))
+}
+
+// What the exchange at these places does whose question stands on a line, if it is one.
+fn placed_on(
+    p: Places,
+    line: &[u8],
+    stores: &mut Stores,
+    others: &mut Stores,
+) -> Option<Result<Plan, Fault>> {
     let mut list = [0u64; MOST_SKIPS];
     let mut bytes = io::buffer();
-    let mut room = io::buffer();
-    let (places, line) = exchange_on(words)?;
     let question = question_on(line, &mut list, &mut bytes)?;
-    let other = exchange_into(question.input, places, &mut room)?;
-    Some(judged(places, question, other))
+    placed(p, question, stores, others)
+}
+
+// What the exchange that some words ask for does, and None where they ask for none or the input has no such places.
+fn asked(words: &[u8], stores: &mut Stores, others: &mut Stores) -> Option<Result<Plan, Fault>> {
+    let (places, line) = exchange_on(words)?;
+    placed_on(places, line, stores, others)
 }
 
 // The line of a refusal.
@@ -89,9 +115,10 @@ fn put_fault(page: &mut Page<'_>, fault: Fault) {
     }
 }
 
-// The answer to the words behind `exchange `, and `?` where they ask for no exchange or the input has no such places.
-pub fn put_exchange(page: &mut Page<'_>, words: &[u8]) {
-    match asked(words) {
+// The answer to the words behind `exchange `, and `?` where they ask for no exchange or the input has no such places; the stores are lent for the walk of
+// the input, the others for that of the exchanged input.
+pub fn put_exchange(page: &mut Page<'_>, words: &[u8], stores: &mut Stores, others: &mut Stores) {
+    match asked(words, stores, others) {
         None => page.bytes(b"?\n"),
         Some(Ok(plan)) => put_counts(page, plan),
         Some(Err(fault)) => put_fault(page, fault),

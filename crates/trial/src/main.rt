@@ -43,9 +43,9 @@ const MOST: usize = 393_216;
 const ROOM: usize = 524_288;
 
 // The answer to a question.
-fn put_asked(page: &mut Page<'_>, q: Question<'_>) {
-    let mut stores = Stores::new();
-    let outcome = Outcome::of(q.input, q, &mut stores);
+fn put_asked(page: &mut Page<'_>, q: Question<'_>, stores: &mut Stores) {
+    stores.stain(q);
+    let outcome = Outcome::of(q.input, q, stores);
     page.dump(Walked::from(outcome.told), outcome.events, outcome.operands);
     if outcome.is_zero_behind() {
         page.bytes(b"stores=zero\n");
@@ -54,36 +54,36 @@ fn put_asked(page: &mut Page<'_>, q: Question<'_>) {
     }
 }
 
-// The answer to a line that is neither empty nor a comment.
-fn put_reply(page: &mut Page<'_>, line: &[u8]) {
+// The answer to a line that is neither empty nor a comment; the stores are lent for the walk of the input, the others for that of the exchanged input.
+fn put_reply(page: &mut Page<'_>, line: &[u8], stores: &mut Stores, others: &mut Stores) {
     if let Some(words) = line.strip_prefix(b"exchange ") {
-        return put_exchange(page, words);
+        return put_exchange(page, words, stores, others);
     }
     let mut list = [0u64; MOST_SKIPS];
     let mut bytes = io::buffer();
     match question_on(line, &mut list, &mut bytes) {
         None => page.bytes(b"?\n"),
-        Some(q) => put_asked(page, q),
+        Some(q) => put_asked(page, q, stores),
     }
 }
 
 // The line, a line end, and its answer.
-fn put_line(page: &mut Page<'_>, line: &[u8]) {
+fn put_line(page: &mut Page<'_>, line: &[u8], stores: &mut Stores, others: &mut Stores) {
     page.bytes(line);
     page.byte(b'\n');
     if is_asking(line) {
-        put_reply(page, line);
+        put_reply(page, line, stores, others);
     }
 }
 
 // Answers every line of the input.
-fn answer_all(text: &mut [u8], page: &mut Page<'_>) {
+fn answer_all(text: &mut [u8], page: &mut Page<'_>, stores: &mut Stores, others: &mut Stores) {
     let mut next = Line::first(text);
     while let Some(line) = next {
         let a = line.start;
         let e = line.end;
         page.make_room(MOST);
-        put_line(page, &text[a..e]);
+        put_line(page, &text[a..e], stores, others);
         next = line.behind(text);
     }
     page.flush();
@@ -92,6 +92,8 @@ fn answer_all(text: &mut [u8], page: &mut Page<'_>) {
 fn main() {
     let mut text = io::large_buffer();
     let mut out = zeros::<ROOM>();
+    let mut stores = Stores::new();
+    let mut others = Stores::new();
     let mut page = Page::new(&mut out, 0);
-    answer_all(&mut text, &mut page);
+    answer_all(&mut text, &mut page, &mut stores, &mut others);
 }

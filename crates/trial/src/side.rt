@@ -6,7 +6,7 @@ use terms::{EVENT_SIZE, Refused};
 use text::store::{entry, numbers_of};
 use walk::{ARRAY, Accepted, BLOB, CHAR6, ENTER, RECORD, SKIP, walk};
 
-// The two stores that a walk fills. Before, they hold a number all over that no walk is to leave behind.
+// The two stores that walks fill, one walk after another. Before the first, they hold a number all over that no walk is to leave behind.
 #[derive(Drop)]
 pub struct Stores {
     events: [u64; STORE],
@@ -49,6 +49,12 @@ impl Stores {
             events: [u64::MAX; STORE],
             operands: [u64::MAX; STORE],
         }
+    }
+
+    // Puts a number that no walk is to leave behind all over what a question asks for.
+    pub fn stain(&mut self, q: Question<'_>) {
+        self.events[..q.events].fill(u64::MAX);
+        self.operands[..q.operands].fill(u64::MAX);
     }
 }
 

@@ -11,7 +11,7 @@ use Rattle.bits.proofs.Once.{same_once}
 use Rattle.walk.specs.declared.Walked.{Walked}
 use Rattle.walk.specs.declared.Accepted.{Accepted}
 use Rattle.walk.specs.Demands.{Meets}
-use Rattle.walk.specs.Promises.{numbers_of}
+use Rattle.walk.specs.Numbers.{numbers_of}
 
 pub walk_once : (bs skip : List ℕ) (n m : ℕ) (r r' : Walked) (es es' os os' : List ℕ) → Meets bs skip n m r es os → Meets bs skip n m r' es' os'
     → (r ≡ r') × (es ≡ es') × (os ≡ os')

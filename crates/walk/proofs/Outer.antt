@@ -23,7 +23,8 @@ use Rattle.abbrev.specs.Tables.{Tables, shareds}
 use Rattle.walk.specs.Piece.{Pieces, all_events, all_store}
 use Rattle.walk.specs.Item.{items, nested}
 use Rattle.walk.specs.Walk.{top_level, start, top_items, Outcome, denied, accepted, outcome, walk_stream, walk_by, listed, those, walk, entries, filled, no_header, result, walked}
-use Rattle.walk.specs.Promises.{answer, numbers_of, marks, closed, body_answer, Is, Streamed, Streams, cleared, Denies, Accepts}
+use Rattle.walk.specs.Numbers.{numbers_of}
+use Rattle.walk.specs.Promises.{answer, marks, closed, body_answer, Is, Streamed, Streams, cleared, Denies, Accepts}
 use Rattle.walk.specs.declared.Walked.{Walked}
 use Rattle.walk.specs.declared.Accepted.{Accepted}
 use Rattle.walk.specs.declared.Marks.{Marks}

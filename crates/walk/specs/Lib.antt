@@ -4,5 +4,6 @@ pub mod Item
 pub mod Walk
 pub mod Samples
 pub mod Shown
+pub mod Numbers
 pub mod Promises
 pub mod Demands

@@ -3,7 +3,7 @@
 use Rattle.std.specs.Prelude.{◌≡◌, true, false, List, [], ◌∷◌, ◌++◌, ℕ, suc, ◌+◌, ◌-◌, ◌*◌, ◌/◌, ◌≤◌, ◌<◌, length, take, replicate, Result, Ok, Err}
 use Rattle.std.proofs.Math.Option.{Option, none as nothing, some}
 use Rattle.terms.specs.Limits.{event_size, max_shared, max_local}
-use Rattle.terms.specs.Refusals.{No, Refusal, no_of, number_of, first_of, second_of, refusal_of}
+use Rattle.terms.specs.Refusals.{No, Refusal, no_of, refusal_of}
 use Rattle.terms.specs.declared.Reason.{Reason}
 use Rattle.terms.specs.declared.Reason.TheVariants.{NoEventRoom}
 use Rattle.terms.specs.declared.Refused.{Refused}
@@ -21,7 +21,7 @@ use Rattle.abbrev.specs.declared.Abbreviations.{Abbreviations}
 use Rattle.walk.specs.Record.{Load, no_load, list_load, blob_load, Record, a_record, values, repeated, bytes, scalar_part, unabbreviated, array_kind, rest, load_list, record_list}
 use Rattle.walk.specs.Piece.{Head, head, Piece, Pieces, Event, enter, leave, record_event, record_of, events, all_events, store, all_store, all_added, State, after}
 use Rattle.walk.specs.Item.{Context, heading, Opening, headed, begun, fits, finish, opening, complete, items, nested}
-use Rattle.walk.specs.Walk.{entry, entries, those, listed, top_items, filled, Result as Told, no_header}
+use Rattle.walk.specs.Walk.{entry, entries, those, listed, top_items, filled, Result as Told}
 use Rattle.walk.specs.declared.Accepted.{Accepted}
 use Rattle.walk.specs.declared.Walked.{Walked}
 use Rattle.walk.specs.declared.Marks.{Marks}
@@ -42,27 +42,6 @@ answer r = record {
   header = r.header;
   events = r.event_count;
   operands = r.operand_count;
-}
-
--- and what the code's answer says, in the same numbers
-abbrev pub numbers_of : Result Accepted Refused → Walked
-numbers_of (Ok a) = record {
-  status = 0;
-  place = 0;
-  first = 0;
-  second = 0;
-  header = a.header;
-  events = a.events;
-  operands = a.operands;
-}
-numbers_of (Err r) = record {
-  status = number_of (no_of r.reason);
-  place = r.place;
-  first = first_of (no_of r.reason);
-  second = second_of (no_of r.reason);
-  header = no_header;
-  events = 0;
-  operands = 0;
 }
 
 -- ---- structs

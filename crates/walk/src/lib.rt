@@ -13,7 +13,8 @@ ghost use Rattle.abbrev.specs.Tables.{row_size, slot_count, Tables, slots, abbre
 ghost use Rattle.walk.specs.Record.{repeated, array_kind};
 ghost use Rattle.walk.specs.Walk.{walked};
 ghost use Rattle.walk.specs.declared.Block.{Block};
-ghost use Rattle.walk.specs.Promises.{numbers_of, placed_at, held, Written, ReadsEach, frame, Sits, Stands, Behind, Passing, Entering, DoesNext, DoesNumber, DoesHead, Is, Runs, Scalars, Recorded, plain, abbreviated, load, Loaded, blob_bytes, head_length, head_width, head_fits, Heads, Tells, Streams, Denies, Accepts, answer};
+ghost use Rattle.walk.specs.Numbers.{numbers_of};
+ghost use Rattle.walk.specs.Promises.{placed_at, held, Written, ReadsEach, frame, Sits, Stands, Behind, Passing, Entering, DoesNext, DoesNumber, DoesHead, Is, Runs, Scalars, Recorded, plain, abbreviated, load, Loaded, blob_bytes, head_length, head_width, head_fits, Heads, Tells, Streams, Denies, Accepts, answer};
 
 use abbrev::{ARRAY_SHAPE, AbbrevNumber, Abbreviations, BlockNumber, LOCAL, ROW, SLOTS};
 use bitcode::{ScalarOperand, Signature};
