@@ -66,7 +66,7 @@ fn placed(
     Some(judged(p, q, other, stores, others))
 }
 
-// What the exchange at these places does whose question stands on a line, if it is one.
+// What the exchange at these places does whose question stands on a line; None where there is no question on it, or its input has no such places.
 fn placed_on(
     p: Places,
     line: &[u8],
